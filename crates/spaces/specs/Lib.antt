@@ -1,0 +1,9 @@
+pub mod Numbers
+pub mod Maps
+pub mod Reads
+pub mod Rules
+pub mod Walks
+pub mod Patches
+pub mod Piles
+pub mod Lawful
+pub mod Edits
