@@ -1,0 +1,2 @@
+pub mod Bounds
+pub mod Tables

@@ -1,0 +1,5 @@
+pub mod Tables
+pub mod Raws
+pub mod Loading
+pub mod Separate
+pub mod Showing

@@ -1,0 +1,63 @@
+ghost use mathlib.Core.Path.{_≡_};
+ghost use denote.Ref.{now};
+ghost use Rattle.spaces.specs.Lawful.{bottom};
+ghost use Rattle.extents.specs.Tables.{held};
+ghost use Rattle.images.specs.Images.{image};
+use extents::Stored;
+use extents::Table;
+use spaces::Fault;
+use spaces::NO_EXTENT;
+use spaces::NOT_STORED;
+use spaces::Refusal;
+use spaces::Space;
+use spaces::no_overlay_here;
+
+// A file's bytes at the addresses of a table of extents.
+#[derive(Drop)]
+pub struct Image<'t, 'f, E> {
+    table: Table<'t, E>,
+    file: &'f [u8],
+}
+
+impl<'t, 'f, E: Stored + Copy> Image<'t, 'f, E> {
+    pub fn new(table: Table<'t, E>, file: &'f [u8]) -> Self
+        ensures { λ r. ⌜ r .table ≡ table .entry ⌝ ∗ ⌜ r .file ≡ file .entry ⌝ }
+    {
+        Image { table, file }
+    }
+
+    // The byte at an address, or the cause why there is none.
+    fn stored(&self, at: u64) -> Result<u8, u8>
+        ensures { λ r. ⌜ r ≡ image (E·Extent .bounds) (E·Stored .places) (held (now (self .entry) .table)) (now (now (self .entry) .file)) at ⌝ }
+    {
+        let extent = self.table.lookup(at).ok_or(NO_EXTENT)?;
+        let place = extent.place(at).ok_or(NOT_STORED)?;
+        if place < self.file.len() as u128 {
+            return Ok(self.file[place as usize]);
+        }
+        Err(NOT_STORED)
+    }
+}
+
+pub impl<E: Stored + Copy> Space for Image<'_, '_, E> as ImageSpace {
+    ghost meaning = { λ s. bottom (image (E·Extent .bounds) (E·Stored .places) (held (s .table)) (now (s .file))) };
+
+    fn byte(&self, at: u64) -> Result<u8, Fault> {
+        match self.stored(at) {
+            Ok(b) => Ok(b),
+            Err(cause) => Err(Fault {
+                depth: 0,
+                address: at,
+                cause,
+            }),
+        }
+    }
+
+    fn set(&mut self, depth: u8, first: u64, bytes: &[u8]) -> Result<(), Refusal> {
+        Err(no_overlay_here(first, bytes.len() as u64))
+    }
+
+    fn clear(&mut self, depth: u8, first: u64, count: u64) -> Result<(), Refusal> {
+        Err(no_overlay_here(first, count))
+    }
+}
