@@ -14,7 +14,8 @@ use Rattle.std.specs.declared.option.Option.the-variants.{Some, None}
 use Rattle.std.specs.shelf.Maps.{nth}
 use Rattle.spaces.specs.declared.refusal.Refusal.{Refusal}
 use Rattle.spaces.specs.declared.refusal.Refusal.the-variants.{HeaderCut, BadHeader, Overlap, TableFull}
-use Rattle.spaces.specs.Numbers.{no-extent, not-stored}
+use Rattle.spaces.specs.declared.cause.Cause.{Cause}
+use Rattle.spaces.specs.declared.cause.Cause.the-variants.{NoExtent, NotStored}
 use Rattle.extents.specs.Bounds.{Contains, contains}
 use Rattle.extents.specs.Tables.{held, overlaps-any, NoneContains}
 use Rattle.extents.proofs.Exact.{contains-exact}

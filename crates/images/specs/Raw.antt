@@ -4,7 +4,7 @@ use Prim.Native.Nat.{ℕ, zero, suc, _<_, _≤_, _-_}
 use lib.ListN.{length, getD}
 use Rattle.std.specs.declared.result.Result.the-variants.{Ok, Err}
 use Rattle.std.specs.declared.option.Option.the-variants.{Some, None}
-use Rattle.spaces.specs.Numbers.{no-extent}
+use Rattle.spaces.specs.declared.cause.Cause.the-variants.{NoExtent}
 use Rattle.spaces.specs.declared.refusal.Refusal.the-variants.{TableFull}
 use Rattle.images.specs.declared.raw.RawExtent.{RawExtent}
 use Rattle.images.specs.Kinds.{raw-bounds, raw-places}
@@ -20,4 +20,4 @@ raw (suc room) (b ∷ bs) = record { extents = record { last = length bs } ∷ [
 -- the image of a raw file has the file's bytes at their places, and nothing else
 pub record ShowsFile (file : List ℕ) (extents : List RawExtent) : Type 0 where
   pub byte : (a : ℕ) → a < length file → image raw-bounds raw-places extents file a ≡ Ok (getD file a 0)
-  pub absent : (a : ℕ) → length file ≤ a → image raw-bounds raw-places extents file a ≡ Err no-extent
+  pub absent : (a : ℕ) → length file ≤ a → image raw-bounds raw-places extents file a ≡ Err NoExtent

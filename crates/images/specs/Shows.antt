@@ -5,7 +5,7 @@ use lib.ListN.{length, getD}
 use Rattle.std.specs.declared.result.Result.the-variants.{Ok, Err}
 use Rattle.std.specs.declared.option.Option.the-variants.{Some}
 use Rattle.std.specs.shelf.Maps.{nth}
-use Rattle.spaces.specs.Numbers.{no-extent, not-stored}
+use Rattle.spaces.specs.declared.cause.Cause.the-variants.{NoExtent, NotStored}
 use Rattle.extents.specs.Bounds.{Contains}
 use Rattle.extents.specs.Tables.{NoneContains}
 use Rattle.endian.specs.Little.{number-at}
@@ -37,5 +37,5 @@ pub record ShowsRanges (file : List ℕ) (extents : List LimeRange) : Type 0 whe
   pub byte : (k a : ℕ) (r : LimeRange) → nth extents k ≡ Some r → Contains (lime-bounds r) a → r .place + (a - r .first) < length file
       → image lime-bounds lime-places extents file a ≡ Ok (getD file (r .place + (a - r .first)) 0)
   pub lacking : (k a : ℕ) (r : LimeRange) → nth extents k ≡ Some r → Contains (lime-bounds r) a → length file ≤ r .place + (a - r .first)
-      → image lime-bounds lime-places extents file a ≡ Err not-stored
-  pub absent : (a : ℕ) → NoneContains lime-bounds extents a → image lime-bounds lime-places extents file a ≡ Err no-extent
+      → image lime-bounds lime-places extents file a ≡ Err NotStored
+  pub absent : (a : ℕ) → NoneContains lime-bounds extents a → image lime-bounds lime-places extents file a ≡ Err NoExtent

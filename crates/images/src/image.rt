@@ -1,13 +1,13 @@
 ghost use mathlib.Core.Path.{_≡_};
 ghost use denote.Ref.{now};
+ghost use Rattle.spaces.specs.Numbers.{numbered};
 ghost use Rattle.spaces.specs.Lawful.{bottom};
 ghost use Rattle.extents.specs.Tables.{held};
 ghost use Rattle.images.specs.Images.{image};
 use extents::Stored;
 use extents::Table;
+use spaces::Cause;
 use spaces::Fault;
-use spaces::NO_EXTENT;
-use spaces::NOT_STORED;
 use spaces::Refusal;
 use spaces::Space;
 use spaces::no_overlay_here;
@@ -27,29 +27,25 @@ impl<'t, 'f, E: Stored + Copy> Image<'t, 'f, E> {
     }
 
     // The byte at an address, or the cause why there is none.
-    fn stored(&self, at: u64) -> Result<u8, u8>
+    fn stored(&self, at: u64) -> Result<u8, Cause>
         ensures { λ r. ⌜ r ≡ image (E·Extent .bounds) (E·Stored .places) (held (now (self .entry) .table)) (now (now (self .entry) .file)) at ⌝ }
     {
-        let extent = self.table.lookup(at).ok_or(NO_EXTENT)?;
-        let place = extent.place(at).ok_or(NOT_STORED)?;
+        let extent = self.table.lookup(at).ok_or(Cause::NoExtent)?;
+        let place = extent.place(at).ok_or(Cause::NotStored)?;
         if place < self.file.len() as u128 {
             return Ok(self.file[place as usize]);
         }
-        Err(NOT_STORED)
+        Err(Cause::NotStored)
     }
 }
 
 pub impl<E: Stored + Copy> Space for Image<'_, '_, E> as ImageSpace {
-    ghost meaning = { λ s. bottom (image (E·Extent .bounds) (E·Stored .places) (held (s .table)) (now (s .file))) };
+    ghost meaning = { λ s. bottom (λ a. numbered (image (E·Extent .bounds) (E·Stored .places) (held (s .table)) (now (s .file)) a)) };
 
     fn byte(&self, at: u64) -> Result<u8, Fault> {
         match self.stored(at) {
             Ok(b) => Ok(b),
-            Err(cause) => Err(Fault {
-                depth: 0,
-                address: at,
-                cause,
-            }),
+            Err(cause) => Err(Fault::own(at, cause.number())),
         }
     }
 

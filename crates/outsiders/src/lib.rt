@@ -56,12 +56,7 @@ mod tests {
             cause: 0x77,
         };
         check_eq(space.byte(4), Err(below))?;
-        let own = Fault {
-            depth: 0,
-            address: 6,
-            cause: 0x78,
-        };
-        check_eq(space.byte(6), Err(own))
+        check_eq(space.byte(6), Err(Fault::own(6, 0x78)))
     }
 
     #[test]

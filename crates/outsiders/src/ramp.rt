@@ -19,11 +19,7 @@ pub impl Space for Ramp as RampSpace {
         if at < self.length {
             return Ok((at % 256) as u8);
         }
-        Err(Fault {
-            depth: 0,
-            address: at,
-            cause: 0x77,
-        })
+        Err(Fault::own(at, 0x77))
     }
 
     fn set(&mut self, depth: u8, first: u64, bytes: &[u8]) -> Result<(), Refusal> {

@@ -19,11 +19,7 @@ pub impl<S: Space> Space for Window<S> as WindowSpace {
     ghost meaning = { λ s. walk-on (window (s .start) (s .length)) (S·Space .meaning (s .below)) };
 
     fn byte(&self, at: u64) -> Result<u8, Fault> {
-        let outside = Err(Fault {
-            depth: 0,
-            address: at,
-            cause: 0x78,
-        });
+        let outside = Err(Fault::own(at, 0x78));
         if at >= self.length {
             return outside;
         }

@@ -1,3 +1,6 @@
+ghost use mathlib.Core.Path.{_≡_};
+ghost use Rattle.spaces.specs.Maps.{own};
+
 // Why an address has no byte: how far below the space that was read, at which address there, and the cause.
 #[derive(Clone, Copy, Debug, PartialEq, Eq)]
 pub struct Fault {
@@ -6,8 +9,15 @@ pub struct Fault {
     pub cause: u8,
 }
 
-// No extent of the image contains the address.
-pub const NO_EXTENT: u8 = 0x01;
-
-// An extent contains it, and the file does not have its byte.
-pub const NOT_STORED: u8 = 0x02;
+impl Fault {
+    // A fault of the space that was read, at the address read.
+    pub fn own(address: u64, cause: u8) -> Fault
+        ensures { λ r. ⌜ r ≡ own address cause ⌝ }
+    {
+        Fault {
+            depth: 0,
+            address,
+            cause,
+        }
+    }
+}

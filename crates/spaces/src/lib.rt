@@ -1,5 +1,6 @@
 // Address spaces in a pile: a bottom that holds bytes, and layers that each show the space below in another way.
 
+mod cause;
 mod fault;
 mod laws;
 mod patch;
@@ -7,11 +8,12 @@ mod refusal;
 mod rise;
 mod space;
 
+pub use cause::Cause;
+pub use cause::CauseDebug;
+pub use cause::CausePartialEq;
 pub use fault::Fault;
 pub use fault::FaultDebug;
 pub use fault::FaultPartialEq;
-pub use fault::NO_EXTENT;
-pub use fault::NOT_STORED;
 pub use laws::every_walk_is_lawful;
 pub use patch::Patch;
 pub use refusal::Refusal;
