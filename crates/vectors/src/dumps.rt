@@ -12,7 +12,12 @@ use spaces::Space;
 use std::alloc::AllocError;
 
 // A LiME header: magic, version, first and last address, and eight bytes that nobody reads.
-pub(crate) fn header(file: &mut Vec<u8>, version: u8, first: u64, last: u64) -> Result<(), AllocError> {
+pub(crate) fn header(
+    file: &mut Vec<u8>,
+    version: u8,
+    first: u64,
+    last: u64,
+) -> Result<(), AllocError> {
     file.extend_from_slice(b"EMiL")?;
     file.extend_from_slice(&[version, 0, 0, 0])?;
     file.extend_from_slice(&first.to_le_bytes())?;
@@ -20,7 +25,12 @@ pub(crate) fn header(file: &mut Vec<u8>, version: u8, first: u64, last: u64) -> 
     file.extend_from_slice(b"reserved")
 }
 
-pub(crate) fn range(file: &mut Vec<u8>, first: u64, last: u64, bytes: &[u8]) -> Result<(), AllocError> {
+pub(crate) fn range(
+    file: &mut Vec<u8>,
+    first: u64,
+    last: u64,
+    bytes: &[u8],
+) -> Result<(), AllocError> {
     header(file, 1, first, last)?;
     file.extend_from_slice(bytes)
 }
