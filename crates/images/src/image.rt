@@ -25,28 +25,18 @@ impl<'t, 'f, E: Stored + Copy> Image<'t, 'f, E> {
     {
         Image { table, file }
     }
-
-    // The byte at an address, or the cause why there is none.
-    fn stored(&self, at: u64) -> Result<u8, Cause>
-        ensures { λ r. ⌜ r ≡ image (E·Extent .bounds) (E·Stored .places) (held (now (self .entry) .table)) (now (now (self .entry) .file)) at ⌝ }
-    {
-        let extent = self.table.lookup(at).ok_or(Cause::NoExtent)?;
-        let place = extent.place(at).ok_or(Cause::NotStored)?;
-        if place < self.file.len() as u128 {
-            return Ok(self.file[place as usize]);
-        }
-        Err(Cause::NotStored)
-    }
 }
 
 pub impl<E: Stored + Copy> Space for Image<'_, '_, E> as ImageSpace {
     ghost meaning = { λ s. bottom (λ a. numbered (image (E·Extent .bounds) (E·Stored .places) (held (s .table)) (now (s .file)) a)) };
 
     fn byte(&self, at: u64) -> Result<u8, Fault> {
-        match self.stored(at) {
-            Ok(b) => Ok(b),
-            Err(cause) => Err(Fault::own(at, cause.number())),
+        let extent = self.table.lookup(at).ok_or(Cause::NoExtent.at(at))?;
+        let place = extent.place(at).ok_or(Cause::NotStored.at(at))?;
+        if place >= self.file.len() as u128 {
+            return Err(Cause::NotStored.at(at));
         }
+        Ok(self.file[place as usize])
     }
 
     fn set(&mut self, depth: u8, first: u64, bytes: &[u8]) -> Result<(), Refusal> {
