@@ -2,4 +2,5 @@ pub mod Tables
 pub mod Raws
 pub mod Loading
 pub mod Separate
+pub mod Headers
 pub mod Showing

@@ -1,135 +1,122 @@
 use mathlib.Core.Path.{_≡_, refl, sym, ap, _∙_, subst}
 use mathlib.Core.List.{List, [], _∷_, _++_, append-assoc, append-nil}
-use mathlib.Core.Bool.{Bool, true, false, cond, _&&_}
+use mathlib.Core.Bool.{Bool, cond}
 use mathlib.Core.Logic.{_⊎_, inl, inr}
 use Prim.Native.Nat.{ℕ, zero, suc, _+_, _-_, _<_, _≤_}
 use native.Mathlib.Omega.{arith}
-use lib.ListN.{length, getD}
-use lib.Dec.{leb, ltb, eqb}
-use Rattle.std.proofs.shelf.Tests.{lt-ltb, le-ltb, ltb-false, leb-true, eqb-true, and-parts, cases-lt}
+use lib.ListN.{length, length-append}
+use Rattle.std.specs.Results.{Cases}
+use Rattle.std.proofs.shelf.Tests.{lt-ltb, le-ltb, cases-lt}
+use Rattle.std.proofs.shelf.Ways.{not-from-decides}
 use Rattle.std.specs.declared.result.Result.{Result}
 use Rattle.std.specs.declared.result.Result.the-variants.{Ok, Err}
 use Rattle.std.specs.declared.option.Option.{Option}
 use Rattle.std.specs.declared.option.Option.the-variants.{Some, None}
 use Rattle.std.specs.shelf.Maps.{nth}
 use Rattle.spaces.specs.declared.refusal.Refusal.{Refusal}
-use Rattle.spaces.specs.declared.refusal.Refusal.the-variants.{HeaderCut, BadHeader, Overlap, TableFull}
-use Rattle.spaces.specs.declared.cause.Cause.{Cause}
-use Rattle.spaces.specs.declared.cause.Cause.the-variants.{NoExtent, NotStored}
-use Rattle.extents.specs.Bounds.{Contains, contains}
-use Rattle.extents.specs.Tables.{held, overlaps-any, NoneContains}
+use Rattle.extents.specs.Bounds.{Contains}
+use Rattle.extents.specs.declared.table.Table.{Table}
+use Rattle.extents.specs.Tables.{held}
 use Rattle.extents.proofs.Exact.{contains-exact}
-use Rattle.endian.specs.Little.{number-at}
+use Rattle.extents.proofs.Searching.{exact-by}
+use Rattle.images.specs.declared.load.NotLoaded.{NotLoaded}
 use Rattle.images.specs.declared.range.LimeRange.{LimeRange}
 use Rattle.images.specs.Kinds.{lime-bounds, lime-places}
 use Rattle.images.specs.Images.{byte-at, answered, image, Apart}
-use Rattle.std.specs.Vec.{made}
-use Rattle.extents.specs.declared.table.Table.{Table}
-use Rattle.images.specs.declared.load.NotLoaded.{NotLoaded}
 use Rattle.images.specs.Loads.{Load, Loads}
-use Rattle.images.specs.Lime.{sound, range-at, end-of, header-at, unless-overlap, next-range, stopped, lime-from, lime}
-use Rattle.images.specs.Shows.{Header, Ranges, end, range, ShowsRanges}
-use Rattle.images.proofs.Tables.{loaded-shows}
-use Rattle.images.proofs.Loading.{done, at-end, at-refused, at-full, at-range}
+use Rattle.images.specs.Lime.{end-of, next-range, lime-from, lime}
+use Rattle.images.specs.Shows.{Header, Leads, here, range, ShowsRanges, Why, full, StopsAt}
+use Rattle.images.proofs.Tables.{loaded}
+use Rattle.images.proofs.Loading.{at-end, at-refused, at-full, at-range}
 use Rattle.images.proofs.Separate.{apart-none, apart-push, first-is, first-none}
+use Rattle.images.proofs.Headers.{Judged, judged}
 
--- what an accepted header says
+-- how a load ends: at the file's end, or at a header that is refused
+abbrev pub Ends : List ℕ → ℕ → List LimeRange → ℕ → Option (Refusal × ℕ) → Type 0
+Ends file room es stop None = length file ≤ stop
+Ends file room es stop (Some (refusal, place)) = (place ≡ stop) × (stop < length file) × Why file room es stop refusal
 
-module _ (file : List ℕ) (place : ℕ) where
-  header-sound : place + 32 ≤ length file → sound file place ≡ true → Header file place (range-at file place)
-  header-sound h s =
-      let p = and-parts (eqb (number-at file place 4) 0x4C694D45) (eqb (number-at file (place + 4) 4) 1 && leb (number-at file (place + 8) 8) (number-at file (place + 16) 8)) s in
-      let q = and-parts (eqb (number-at file (place + 4) 4) 1) (leb (number-at file (place + 8) 8) (number-at file (place + 16) 8)) (p .1) in
-      record {
-        whole = h;
-        magic = eqb-true (number-at file place 4) 0x4C694D45 (p .0);
-        version = eqb-true (number-at file (place + 4) 4) 1 (q .0);
-        first = refl;
-        last = refl;
-        upward = leb-true (number-at file (place + 8) 8) (number-at file (place + 16) 8) (q .1);
-        bytes = refl;
-      }
-
-  header-read : (r : LimeRange) → header-at file place ≡ Ok r → Header file place r
-  header-read r e = step (ltb (length file) (place + 32)) refl (sound file place) refl e
-    where
-      step : (cut : Bool) → ltb (length file) (place + 32) ≡ cut → (good : Bool) → sound file place ≡ good
-          → cond cut (Err HeaderCut) (cond good (Ok (range-at file place)) (Err BadHeader)) ≡ Ok r → Header file place r
-      step true h good s e = let z : _≡_ {A = ℕ} 0 1 = cc in absurd (omega arith)
-      step false h false s e = let z : _≡_ {A = ℕ} 0 1 = cc in absurd (omega arith)
-      step false h true s e = let same : range-at file place ≡ r = cc in subst (Header file place) same (header-sound (ltb-false (length file) (place + 32) h) s)
-
-  next-read : (before : List LimeRange) (r : LimeRange) → next-range file place before ≡ Ok r → Header file place r × (overlaps-any lime-bounds before (lime-bounds r) ≡ false)
-  next-read before r e = step (header-at file place) refl e
-    where
-      free : (x : LimeRange) (b : Bool) → overlaps-any lime-bounds before (lime-bounds x) ≡ b → _≡_ {A = Result LimeRange Refusal} (cond b (Err Overlap) (Ok x)) (Ok r)
-          → (x ≡ r) × (overlaps-any lime-bounds before (lime-bounds r) ≡ false)
-      free x true h e = let z : _≡_ {A = ℕ} 0 1 = cc in absurd (omega arith)
-      free x false h e = let same : x ≡ r = cc in (same, subst (λ (y : LimeRange). overlaps-any lime-bounds before (lime-bounds y) ≡ false) same h)
-
-      step : (w : Result LimeRange Refusal) → header-at file place ≡ w → unless-overlap before w ≡ Ok r → Header file place r × (overlaps-any lime-bounds before (lime-bounds r) ≡ false)
-      step (Err refusal) h e = let z : _≡_ {A = ℕ} 0 1 = cc in absurd (omega arith)
-      step (Ok x) h e = let t = free x _ refl e in (header-read r (h ∙ ap Ok (t .0)), t .1)
-
--- a load that is not refused has read the ranges to the file's end
-
-pub record Reads (file : List ℕ) (place : ℕ) (before : List LimeRange) (load : Load LimeRange) : Type 0 where
+-- what a load from a place on has read, after the ranges before it
+pub record Reads (file : List ℕ) (room place : ℕ) (before : List LimeRange) (load : Load LimeRange) : Type 0 where
   pub more : List LimeRange
+  pub stop : ℕ
   pub all : load .extents ≡ before ++ more
-  pub ranges : Ranges file place more
+  pub leads : Leads file place more stop
   pub apart : Apart lime-bounds (load .extents)
+  pub ends : Ends file room (load .extents) stop (load .refused)
 
-not-refused : (x : Refusal × ℕ) → Some x ≡ None → ⊥
-not-refused x e = let z : _≡_ {A = ℕ} 0 1 = cc in omega arith
+module _ (file : List ℕ) (room : ℕ) where
+  -- nothing more is read
+  reads-none : (place : ℕ) (before : List LimeRange) (o : Option (Refusal × ℕ)) → Apart lime-bounds before → Ends file room before place o → Reads file room place before (record { extents = before; refused = o })
+  reads-none place before o s e = record { more = []; stop = place; all = sym (append-nil before); leads = here; apart = s; ends = e }
 
-module _ (file : List ℕ) where
-  reads-end : (n place : ℕ) (before : List LimeRange) → Apart lime-bounds before → length file ≤ place → Reads file place before (lime-from n file place before)
-  reads-end n place before s h = rw (at-end file n place before h) (record { more = []; all = sym (append-nil before); ranges = end h; apart = s })
-
-  reads-range : (place : ℕ) (before : List LimeRange) (r : LimeRange) (load : Load LimeRange) → Header file place r → Reads file (end-of r) (before ++ (r ∷ [])) load → Reads file place before load
-  reads-range place before r load h t = record { more = r ∷ t .more; all = t .all ∙ append-assoc before (r ∷ []) (t .more); ranges = range h (t .ranges); apart = t .apart }
-
-  refused-same : (l k : Load LimeRange) → l ≡ k → l .refused ≡ None → k .refused ≡ None
-  refused-same l k same e = sym (ap (λ (x : Load LimeRange). x .refused) same) ∙ e
+  reads-range : (place : ℕ) (before : List LimeRange) (r : LimeRange) (load : Load LimeRange) → Header file place r → Reads file room (end-of r) (before ++ (r ∷ [])) load → Reads file room place before load
+  reads-range place before r load h t = record {
+    more = r ∷ t .more;
+    stop = t .stop;
+    all = t .all ∙ append-assoc before (r ∷ []) (t .more);
+    leads = range h (t .leads);
+    apart = t .apart;
+    ends = t .ends;
+  }
 
   -- unless there is one more range, the load is at its end
-  reads-or : (n place : ℕ) (before : List LimeRange) → Apart lime-bounds before → lime-from n file place before .refused ≡ None
-      → ((r : LimeRange) → place < length file → next-range file place before ≡ Ok r → Reads file place before (lime-from n file place before))
-      → Reads file place before (lime-from n file place before)
-  reads-or n place before s e one = step (cases-lt place (length file)) (next-range file place before) refl
+  reads-or : (n place : ℕ) (before : List LimeRange) → Apart lime-bounds before
+      → ((r : LimeRange) → place < length file → next-range file place before ≡ Ok r → Reads file room place before (lime-from n file place before))
+      → Reads file room place before (lime-from n file place before)
+  reads-or n place before s one = step (cases-lt place (length file)) (next-range file place before) refl
     where
-      step : (place < length file) ⊎ (length file ≤ place) → (w : Result LimeRange Refusal) → next-range file place before ≡ w → Reads file place before (lime-from n file place before)
-      step (inr h) w q = reads-end n place before s h
-      step (inl h) (Err refusal) q = absurd (not-refused (refusal, place) (refused-same _ _ (at-refused file place before h n refusal q) e))
+      step : (place < length file) ⊎ (length file ≤ place) → (w : Result LimeRange Refusal) → next-range file place before ≡ w → Reads file room place before (lime-from n file place before)
+      step (inr h) w q = rw (at-end file n place before h) (reads-none place before None s h)
+      step (inl h) (Err refusal) q = rw (at-refused file place before h n refusal q) (reads-none place before _ s (refl, h, subst (Judged file place room before) q (judged file place room before)))
       step (inl h) (Ok r) q = one r h q
 
-  reads : (n place : ℕ) (before : List LimeRange) → Apart lime-bounds before → lime-from n file place before .refused ≡ None → Reads file place before (lime-from n file place before)
-  reads zero place before s e = reads-or zero place before s e (λ r h q. absurd (not-refused (TableFull, place) (refused-same _ _ (at-full file place before h zero r refl q) e)))
-  reads (suc n) place before s e = reads-or (suc n) place before s e (λ r h q.
-      let same = at-range file place before h (suc n) n r refl q in
-      let t = next-read file place before r q in
-      rw same (reads-range place before r _ (t .0) (reads n (end-of r) (before ++ (r ∷ [])) (apart-push lime-bounds before r s (t .1)) (refused-same _ _ same e))))
+  reads : (n place : ℕ) (before : List LimeRange) → Apart lime-bounds before → length before + n ≡ room → Reads file room place before (lime-from n file place before)
+  reads zero place before s k = reads-or zero place before s (λ r h q.
+      let t = subst (Judged file place room before) q (judged file place room before) in
+      let apart = not-from-decides _ (exact-by lime-bounds (lime-bounds r) before _ refl) (t .1) in
+      rw (at-full file place before h zero r refl q) (reads-none place before _ s (refl, h, full (t .0) apart (omega arith))))
+  reads (suc n) place before s k = reads-or (suc n) place before s (λ r h q.
+      let t = subst (Judged file place room before) q (judged file place room before) in
+      let long : length (before ++ (r ∷ [])) + n ≡ room = simp length-append (omega arith) in
+      rw (at-range file place before h (suc n) n r refl q) (reads-range place before r _ (t .0) (reads n (end-of r) (before ++ (r ∷ [])) (apart-push lime-bounds before r s (t .1)) long)))
 
--- what the image shows
+  read-all : Reads file room 0 [] (lime room file)
+  read-all = reads room 0 [] (apart-none lime-bounds) (omega arith)
 
-module _ (file : List ℕ) (es : List LimeRange) (s : Apart lime-bounds es) where
-  at-range-of : (k a : ℕ) (r : LimeRange) → nth es k ≡ Some r → Contains (lime-bounds r) a → image lime-bounds lime-places es file a ≡ byte-at file (Some (r .place + (a - r .first)))
+  leads-to : Leads file 0 (lime room file .extents) (read-all .stop)
+  leads-to = subst (λ (es : List LimeRange). Leads file 0 es (read-all .stop)) (sym (read-all .all)) (read-all .leads)
+
+  -- the image at an address of a range
+  at-range-of : (k a : ℕ) (r : LimeRange) → nth (lime room file .extents) k ≡ Some r → Contains (lime-bounds r) a
+      → image lime-bounds lime-places (lime room file .extents) file a ≡ byte-at file (Some (r .place + (a - r .first)))
   at-range-of k a r at c =
-      ap (λ (w : Option LimeRange). answered lime-bounds lime-places w file a) (first-is lime-bounds es k a r s at c)
+      ap (λ (w : Option LimeRange). answered lime-bounds lime-places w file a) (first-is lime-bounds _ k a r (read-all .apart) at c)
       ∙ ap (λ (b : Bool). byte-at file (cond b (Some (r .place + (a - r .first))) None)) (contains-exact (lime-bounds r) a .1 c)
 
-pub shows-ranges : (room : ℕ) (file : List ℕ) → lime room file .refused ≡ None → ShowsRanges file (lime room file .extents)
-shows-ranges room file e =
-    let t = reads file room 0 [] (apart-none lime-bounds) e in
-    record {
-      ranges = subst (Ranges file 0) (sym (t .all)) (t .ranges);
-      apart = t .apart;
-      byte = λ k a r at c h. at-range-of file _ (t .apart) k a r at c ∙ rw (lt-ltb (r .place + (a - r .first)) (length file) h);
-      lacking = λ k a r at c h. at-range-of file _ (t .apart) k a r at c ∙ rw (le-ltb (r .place + (a - r .first)) (length file) h);
-      absent = λ a n. ap (λ (w : Option LimeRange). answered lime-bounds lime-places w file a) (first-none lime-bounds _ a n);
-    }
+  shows-ranges : lime room file .refused ≡ None → ShowsRanges file (lime room file .extents)
+  shows-ranges e = record {
+    stop = read-all .stop;
+    ranges = leads-to;
+    whole = subst (Ends file room _ (read-all .stop)) e (read-all .ends);
+    apart = read-all .apart;
+    byte = λ k a r at low high h. at-range-of k a r at (record { from = low; upto = high }) ∙ rw (lt-ltb (r .place + (a - r .first)) (length file) h);
+    lacking = λ k a r at low high h. at-range-of k a r at (record { from = low; upto = high }) ∙ rw (le-ltb (r .place + (a - r .first)) (length file) h);
+    absent = λ a n. ap (λ (w : Option LimeRange). answered lime-bounds lime-places w file a) (first-none lime-bounds _ a (λ k r at c. n k r at (c .from) (c .upto)));
+  }
 
--- a load that answers a number shows the file's ranges
-pub lime-shows : (room : ℕ) (file : List ℕ) (t u : Table LimeRange) (r : Result ℕ NotLoaded) → Loads (lime room file) t u r → made r (λ _. ShowsRanges file (held u))
-lime-shows room file t u r s =
-    loaded-shows (ShowsRanges file) (lime room file) t u r s (shows-ranges room file)
+  stops-at : (refusal : Refusal) (place : ℕ) → lime room file .refused ≡ Some (refusal, place)
+      → StopsAt file room (lime room file .extents) (record { refusal = refusal; place = place; written = length (lime room file .extents) })
+  stops-at refusal place e =
+      let t = subst (Ends file room _ (read-all .stop)) e (read-all .ends) in
+      record {
+        ranges = rw (t .0) leads-to;
+        inside = rw (t .0) (t .1);
+        apart = read-all .apart;
+        why = rw (t .0) (t .2);
+        written = refl;
+      }
+
+-- what a load of a LiME file says, by what is answered
+pub lime-law : (room : ℕ) (file : List ℕ) (t u : Table LimeRange) (r : Result ℕ NotLoaded) → Loads (lime room file) t u r → Cases r (λ _. ShowsRanges file (held u)) (StopsAt file room (held u))
+lime-law room file t u r s = loaded (ShowsRanges file) (StopsAt file room) (lime room file) t u r s (shows-ranges file room) (stops-at file room)

@@ -1,16 +1,14 @@
 use mathlib.Core.Path.{_≡_, refl, sym, ap, ap₂, _∙_, subst}
 use mathlib.Core.List.{List, [], _∷_, _++_, append-assoc}
-use Prim.Native.Nat.{ℕ, suc, _+_, _-_, _<_, _≤_}
-use native.Mathlib.Numerals.{add-one}
+use Prim.Native.Nat.{ℕ, suc, _+_, _<_, _≤_}
 use native.Mathlib.Omega.{arith}
-use lib.ListN.{length, take, drop, set, length-append, length-drop}
+use lib.ListN.{length, drop, set, length-append, length-drop}
 use lib.Seq.{take-append-seam, set-append-seam, drop-cons}
-use lib.Dec.{ltb}
 use denote.Ref.{now, at-last}
 use Rattle.std.proofs.shelf.Tests.{lt-ltb}
 use Rattle.extents.specs.declared.table.Table.{Table}
 use Rattle.extents.specs.Tables.{held, room, pushed}
-use Rattle.std.specs.Vec.{made}
+use Rattle.std.specs.Results.{Cases}
 use Rattle.std.specs.declared.result.Result.{Result}
 use Rattle.std.specs.declared.option.Option.{Option}
 use Rattle.std.specs.declared.option.Option.the-variants.{Some, None}
@@ -40,10 +38,16 @@ module _ {E : Type 0} (t : Table E) where
       rw (lt-ltb (length es) (room (filled-with es t)) (omega (arith, filled-room es (omega arith))))
       (ap₂ (λ (l : List E) (n : ℕ). record { entries = at-last (t .entries) l; count = n }) (set-behind es e h) (simp length-append (omega arith)))
 
--- what holds of the extents of every load that is not refused holds of the table after a load that answers a number
-pub loaded-shows : {E : Type 0} (P : List E → Type 0) (load : Load E) (t u : Table E) (r : Result ℕ NotLoaded) → Loads load t u r → (load .refused ≡ None → P (load .extents)) → made r (λ _. P (held u))
-loaded-shows P load t u r s p = subst (λ (w : Result ℕ NotLoaded). made w (λ _. P (held u))) (sym (s .answers)) (step (load .refused) refl)
+-- what holds of a load's extents, by how it ends, holds of the table afterwards, by what is answered
+pub loaded : {E : Type 0} (P : List E → Type 0) (Q : List E → NotLoaded → Type 0) (load : Load E) (t u : Table E) (r : Result ℕ NotLoaded) → Loads load t u r
+    → (load .refused ≡ None → P (load .extents))
+    → ((refusal : Refusal) (place : ℕ) → load .refused ≡ Some (refusal, place) → Q (load .extents) (record { refusal = refusal; place = place; written = length (load .extents) }))
+    → Cases r (λ _. P (held u)) (Q (held u))
+loaded P Q load t u r s p q = subst (λ (w : Result ℕ NotLoaded). Cases w (λ _. P (held u)) (Q (held u))) (sym (s .answers)) (step (load .refused) refl)
   where
-    step : (o : Option (Refusal × ℕ)) → load .refused ≡ o → made (answer o (length (load .extents))) (λ _. P (held u))
-    step None e = subst P (sym (ap held (s .table) ∙ filled-held t (load .extents))) (p e)
-    step (Some x) e = tt
+    same : load .extents ≡ held u
+    same = sym (ap held (s .table) ∙ filled-held t (load .extents))
+
+    step : (o : Option (Refusal × ℕ)) → load .refused ≡ o → Cases (answer o (length (load .extents))) (λ _. P (held u)) (Q (held u))
+    step None e = subst P same (p e)
+    step (Some (refusal, place)) e = subst (λ es. Q es (record { refusal = refusal; place = place; written = length (load .extents) })) same (q refusal place e)

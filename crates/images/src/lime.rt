@@ -1,11 +1,11 @@
 ghost use mathlib.Core.Path.{_≡_};
 ghost use Prim.Native.Nat.{_<_, min};
 ghost use lib.ListN.{length};
-ghost use Rattle.std.specs.Vec.{made};
+ghost use Rattle.std.specs.Results.{Cases};
 ghost use Rattle.extents.specs.Tables.{held, room};
 ghost use Rattle.images.specs.Loads.{Loads};
 ghost use Rattle.images.specs.Lime.{header-at, next-range, end-of, lime};
-ghost use Rattle.images.specs.Shows.{ShowsRanges};
+ghost use Rattle.images.specs.Shows.{ShowsRanges, StopsAt};
 use crate::load::NotLoaded;
 use crate::range::LimeRange;
 use crate::range::LimeRangeExtent;
@@ -92,7 +92,7 @@ fn load(file: &[u8], table: &mut Table<'_, LimeRange>) -> Result<usize, NotLoade
 // Makes the table hold a LiME file's ranges.
 pub fn load_lime(file: &[u8], table: &mut Table<'_, LimeRange>) -> Result<usize, NotLoaded>
     ensures loads { λ r. ⌜ Loads (lime (room (now (table .entry))) (now (file .entry))) (now (table .entry)) (now (table .exit)) r ⌝ }
-    ensures shows { λ r. ⌜ made r (λ _. ShowsRanges (now (file .entry)) (held (now (table .exit)))) ⌝ }
+    ensures law { λ r. ⌜ Cases r (λ _. ShowsRanges (now (file .entry)) (held (now (table .exit)))) (StopsAt (now (file .entry)) (room (now (table .entry))) (held (now (table .exit)))) ⌝ }
 {
     load(file, table)
 }

@@ -1,4 +1,3 @@
-ghost use mathlib.Core.Path.{_≡_};
 ghost use Rattle.images.specs.Kinds.{raw-bounds, raw-places};
 use extents::Extent;
 use extents::Stored;

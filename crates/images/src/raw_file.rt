@@ -1,7 +1,7 @@
-ghost use Rattle.std.specs.Vec.{made};
+ghost use Rattle.std.specs.Results.{Cases};
 ghost use Rattle.extents.specs.Tables.{held, room};
 ghost use Rattle.images.specs.Loads.{Loads};
-ghost use Rattle.images.specs.Raw.{raw, ShowsFile};
+ghost use Rattle.images.specs.Raw.{raw, ShowsFile, NoRoom};
 use crate::load::NotLoaded;
 use crate::raw::RawExtent;
 use crate::raw::RawExtentExtent;
@@ -30,7 +30,7 @@ fn load(file: &[u8], table: &mut Table<'_, RawExtent>) -> Result<usize, NotLoade
 // Makes the table hold a raw file's extent.
 pub fn load_raw(file: &[u8], table: &mut Table<'_, RawExtent>) -> Result<usize, NotLoaded>
     ensures loads { λ r. ⌜ Loads (raw (room (now (table .entry))) (now (file .entry))) (now (table .entry)) (now (table .exit)) r ⌝ }
-    ensures shows { λ r. ⌜ made r (λ _. ShowsFile (now (file .entry)) (held (now (table .exit)))) ⌝ }
+    ensures law { λ r. ⌜ Cases r (λ _. ShowsFile (now (file .entry)) (held (now (table .exit)))) (NoRoom (now (file .entry)) (room (now (table .entry))) (held (now (table .exit)))) ⌝ }
 {
     load(file, table)
 }

@@ -1,4 +1,3 @@
-ghost use mathlib.Core.Path.{_≡_};
 ghost use Rattle.spaces.specs.Lawful.{bottom};
 ghost use Rattle.outsiders.specs.Shapes.{ramp};
 use spaces::Fault;

@@ -1,4 +1,3 @@
-ghost use mathlib.Core.Path.{_≡_};
 ghost use Rattle.spaces.specs.Lawful.{walk-on};
 ghost use Rattle.outsiders.specs.Shapes.{window};
 use spaces::Fault;

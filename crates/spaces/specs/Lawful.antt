@@ -7,9 +7,9 @@ use Rattle.std.specs.declared.result.Result.{Result}
 use Rattle.std.specs.declared.result.Result.the-variants.{Ok, Err}
 use Rattle.spaces.specs.declared.fault.Fault.{Fault}
 use Rattle.spaces.specs.Maps.{Answer, Map, own, owned, climbed}
-use Rattle.spaces.specs.Rules.{Rule, Agree, Own, Climbs, LawfulRule, LawfulBase}
+use Rattle.spaces.specs.Rules.{Rule, Agree, Own, Climbs, LawfulRule}
 use Rattle.spaces.specs.Walks.{Walk, give, fail, ask, asked, walked, rule-of, Every-walk-is-lawful}
-use Rattle.spaces.specs.Piles.{Layer, plain, Pile, LawfulPile}
+use Rattle.spaces.specs.Piles.{plain, LawfulPile}
 
 -- How a space's meaning is made, with the proof of its laws: a bottom from bytes and causes, a layer from a walk or
 -- from a rule that is shown to keep the laws. What is proved here needs no belief; what a pile is stands in Piles.

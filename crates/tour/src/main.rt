@@ -73,14 +73,14 @@ fn try_load(rt: &LibcRuntime, name: &str, room: usize) -> io::Result<()> {
 
 fn tell_load(rt: &LibcRuntime, name: &str, loaded: Result<usize, NotLoaded>) -> io::Result<()> {
     match loaded {
-        Ok(count) => println!(rt, "{name}: loaded, {count} extents"),
+        Ok(count) => println!(rt, "{name}: loaded, extents: {count}"),
         Err(not) => {
             let number = not.refusal.number();
             let place = not.place;
             let written = not.written;
             println!(
                 rt,
-                "{name}: refused {number:02x} at place {place}, after {written} extents"
+                "{name}: refused {number:02x} at place {place}, extents before it: {written}"
             )
         }
     }

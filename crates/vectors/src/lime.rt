@@ -59,7 +59,11 @@ fn ranges_overlap(rt: LibcRuntime) -> Result<(), Fail> {
     range(&mut file, 0, 9, b"0123456789")?;
     range(&mut file, 9, 12, b"9abc")?;
     check_eq(loaded(&file, 8), refused(Refusal::Overlap, 42, 1))?;
-    check_eq(loaded(&file, 1), refused(Refusal::Overlap, 42, 1)).note("the smaller number first")
+    check_eq(loaded(&file, 1), refused(Refusal::Overlap, 42, 1)).note("34 before 35")?;
+    let mut bad = Vec::new(rt.alloc());
+    range(&mut bad, 0, 9, b"0123456789")?;
+    header(&mut bad, 2, 9, 12)?;
+    check_eq(loaded(&bad, 1), refused(Refusal::BadHeader, 42, 1)).note("31 before 34 and 35")
 }
 
 #[test]

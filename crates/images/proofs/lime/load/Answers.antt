@@ -1,5 +1,4 @@
-use mathlib.Core.Path.{_≡_, sym, ap, _∙_, subst}
-use native.Mathlib.Omega.{arith}
+use mathlib.Core.Path.{sym}
 use Rattle.images.proofs.Loading.{cleared, loads-all, loads-to-refusal, loads-to-full, underway-more}
 use Rattle.images.proofs.lime.load.Needs as need
 

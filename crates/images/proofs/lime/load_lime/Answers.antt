@@ -1,5 +1,5 @@
-use Rattle.images.proofs.Showing.{lime-shows}
+use Rattle.images.proofs.Showing.{lime-law}
 use Rattle.images.proofs.lime.load_lime.Needs as need
 
 pub returns : need.returns
-returns c = record { loads = c .load .ensures; shows = lime-shows _ _ _ _ _ (c .load .ensures) }
+returns c = record { loads = c .load .ensures; law = lime-law _ _ _ _ _ (c .load .ensures) }

@@ -1,10 +1,6 @@
-use mathlib.Core.Path.{_≡_, sym, _∙_, ap, subst}
-use Prim.Native.Nat.{ℕ}
+use mathlib.Core.Path.{_≡_, sym, _∙_, ap}
 use lib.ListN.{length}
 use native.Mathlib.Omega.{arith}
-use Rattle.std.specs.declared.option.Option.the-variants.{None}
-use Rattle.spaces.specs.Maps.{Answer}
-use Rattle.spaces.specs.Reads.{Fills}
 use Rattle.spaces.specs.Piles.{shown}
 use Rattle.spaces.proofs.Filling.{filled-none, filled-more, fills-all, fills-to-fault}
 use Rattle.spaces.proofs.space.Space.fill.Needs as need
