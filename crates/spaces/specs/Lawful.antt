@@ -9,7 +9,8 @@ use Rattle.spaces.specs.declared.fault.Fault.{Fault}
 use Rattle.spaces.specs.Maps.{Answer, Map, own, owned, climbed}
 use Rattle.spaces.specs.Rules.{Rule, Agree, Own, Climbs, LawfulRule}
 use Rattle.spaces.specs.Walks.{Walk, give, fail, ask, asked, walked, rule-of, Every-walk-is-lawful}
-use Rattle.spaces.specs.Piles.{plain, LawfulPile}
+use Rattle.spaces.specs.Patches.{Patches, LawfulPatches}
+use Rattle.spaces.specs.Piles.{Layer, plain, overlay, LawfulLayer, LawfulPile}
 
 -- How a space's meaning is made, with the proof of its laws: a bottom from bytes and causes, a layer from a walk or
 -- from a rule that is shown to keep the laws. What is proved here needs no belief; what a pile is stands in Piles.
@@ -66,13 +67,21 @@ bottom w = record {
   lawful = record { layers = tt; base = λ a f. owned-own a (w a) f };
 }
 
--- a layer over a pile, by its rule and the rule's laws
-abbrev pub layer-on : (r : Rule) → LawfulRule r → LawfulPile → LawfulPile
-layer-on r h below = record {
-  pile = record { layers = plain r ∷ below .pile .layers; base = below .pile .base };
+-- one layer more on a pile
+abbrev pub stacked : (l : Layer) → LawfulLayer l → LawfulPile → LawfulPile
+stacked l h below = record {
+  pile = record { layers = l ∷ below .pile .layers; base = below .pile .base };
   lawful = record { layers = (h, below .lawful .layers); base = below .lawful .base };
 }
+
+-- a layer over a pile, by its rule and the rule's laws
+abbrev pub layer-on : (r : Rule) → LawfulRule r → LawfulPile → LawfulPile
+layer-on r h below = stacked (plain r) h below
 
 -- a layer over a pile, by its walk at each address
 abbrev pub walk-on : (ℕ → Walk ℕ) → LawfulPile → LawfulPile
 walk-on w below = layer-on (rule-of w) (walk-lawful w) below
+
+-- an overlay over a pile, by its patches
+abbrev pub overlay-on : (ps : Patches) → LawfulPatches ps → LawfulPile → LawfulPile
+overlay-on ps h below = stacked (overlay ps) h below

@@ -5,5 +5,9 @@ pub mod Rules
 pub mod Walks
 pub mod Patches
 pub mod Piles
+pub mod Trails
 pub mod Lawful
 pub mod Edits
+pub mod EditLaws
+pub mod PileLaws
+pub mod CallLaws

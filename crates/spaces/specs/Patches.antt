@@ -18,6 +18,9 @@ abbrev pub ascends : ℕ → Patches → Bool
 ascends n [] = true
 ascends n (p ∷ ps) = leb n (p .address) && ascends (suc (p .address)) ps
 
+abbrev pub Ascending : ℕ → Patches → Type 0
+Ascending n ps = ascends n ps ≡ true
+
 -- the patch byte of an address
 abbrev pub lookup : Patches → ℕ → Option ℕ
 lookup [] a = None
@@ -40,5 +43,5 @@ replaced first end bytes ps = before first ps ++ (laid first bytes ++ from end p
 
 -- each address once, in order, and at most 256 of them
 pub record LawfulPatches (ps : Patches) : Type 0 where
-  pub ascending : ascends 0 ps ≡ true
+  pub ascending : Ascending 0 ps
   pub few : length ps ≤ 256

@@ -1,10 +1,9 @@
-use mathlib.Core.List.{List, [], _∷_, _++_}
-use Prim.Native.Nat.{ℕ, zero, suc}
+use mathlib.Core.List.{List, [], _∷_}
+use Prim.Native.Nat.{ℕ}
 use lib.ListN.{drop}
 use Rattle.std.specs.declared.option.Option.{Option}
 use Rattle.std.specs.declared.option.Option.the-variants.{Some, None}
 use Rattle.spaces.specs.Maps.{Map}
-use Rattle.spaces.specs.Reads.{through}
 use Rattle.spaces.specs.Rules.{Rule, LawfulRule, LawfulBase}
 use Rattle.spaces.specs.Walks.{Walk, give, ask, rule-of}
 use Rattle.spaces.specs.Patches.{Patches, lookup, LawfulPatches}
@@ -39,21 +38,6 @@ shown p = composed (p .layers) (p .base)
 -- the pile from a depth down
 abbrev pub from-depth : ℕ → Pile → Pile
 from-depth d p = record { layers = drop d (p .layers); base = p .base }
-
--- the trails of some addresses, joined
-abbrev pub joined : Rule → Map → List ℕ → List ℕ
-joined r m [] = []
-joined r m (a ∷ xs) = r m a .1 ++ joined r m xs
-
--- at depth 0 the addresses themselves, at each depth further the joined trails of those one depth above
-abbrev pub trail-of : List Layer → Map → ℕ → List ℕ → List ℕ
-trail-of ls m zero xs = xs
-trail-of [] m (suc k) xs = []
-trail-of (l ∷ ls) m (suc k) xs = trail-of ls m k (joined (rule l) (composed ls m) xs)
-
--- a read's trail at a depth
-abbrev pub trail : Pile → List ℕ → ℕ → List ℕ
-trail p xs k = trail-of (p .layers) (p .base) k (through (shown p) xs)
 
 abbrev pub LawfulLayer : Layer → Type 0
 LawfulLayer (plain r) = LawfulRule r

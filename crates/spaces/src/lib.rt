@@ -1,5 +1,6 @@
 // Address spaces in a pile: a bottom that holds bytes, and layers that each show the space below in another way.
 
+mod calls;
 mod cause;
 mod fault;
 mod laws;
@@ -7,13 +8,21 @@ mod patch;
 mod refusal;
 mod rise;
 mod space;
+mod watched;
 
+pub use calls::locate;
+pub use calls::watched_set;
 pub use cause::Cause;
 pub use cause::CauseDebug;
 pub use cause::CausePartialEq;
 pub use fault::Fault;
 pub use fault::FaultDebug;
 pub use fault::FaultPartialEq;
+pub use laws::every_edit_changes_its_addresses_alone;
+pub use laws::every_edit_off_the_trail_keeps_the_read;
+pub use laws::every_fault_arose_where_it_says;
+pub use laws::every_overlay_shows_its_patches;
+pub use laws::every_read_rests_on_its_trail;
 pub use laws::every_walk_is_lawful;
 pub use patch::Patch;
 pub use refusal::Refusal;
@@ -22,3 +31,6 @@ pub use refusal::RefusalPartialEq;
 pub use rise::climb;
 pub use rise::no_overlay_here;
 pub use space::Space;
+pub use watched::Watched;
+pub use watched::WatchedDebug;
+pub use watched::WatchedPartialEq;

@@ -1,0 +1,156 @@
+use mathlib.Core.Path.{_≡_, refl, sym, ap, ap₂, _∙_, subst}
+use mathlib.Core.List.{List, [], _∷_, _++_}
+use mathlib.Core.Bool.{Bool, true, false, cond}
+use Prim.Native.Nat.{ℕ, zero, suc, _+_, _<_, _≤_, _^_}
+use native.Mathlib.Omega.{arith}
+use lib.Dec.{leb, ltb}
+use lib.ListN.{length}
+use Rattle.std.specs.declared.option.Option.{Option}
+use Rattle.std.specs.declared.option.Option.the-variants.{Some, None}
+use Rattle.std.specs.declared.result.Result.the-variants.{Ok, Err}
+use Rattle.std.proofs.shelf.Lists.{length-append, nil-from-length}
+use Rattle.std.proofs.shelf.Tests.{ltb-true, ltb-false, lt-ltb, le-ltb, lt-leb, cond-both}
+use Rattle.spaces.specs.declared.refusal.Refusal.{Refusal}
+use Rattle.spaces.specs.declared.refusal.Refusal.the-variants.{PastTheEnd, NoOverlay, TooManyPatches}
+use Rattle.spaces.specs.Patches.{Patches, Ascending, lookup, before, from, replaced, LawfulPatches}
+use Rattle.spaces.specs.Piles.{Layer, plain, overlay, Pile, LawfulLayers, LawfulPile}
+use Rattle.spaces.specs.Edits.{Edit, setting, clearing, first-of, count-of, edit, patches-at, crowded, crowding, judged, refusal, edit-at, unless, edited, Outcome, outcome, EditsPatches}
+use Rattle.spaces.specs.EditLaws.{Changes, Weighed, EditLaws, ClearLaw, NoneThere, PileEditLaws, Every-edit-changes-its-addresses-alone}
+use Rattle.spaces.proofs.Ascents.{ascending-replaced, replaced-none}
+use Rattle.spaces.proofs.Finding.{changes}
+use Rattle.spaces.proofs.Places.{exactly-edited}
+
+ascending-edit : (e : Edit) (ps : Patches) → Ascending 0 ps → Ascending 0 (edit e ps)
+ascending-edit (setting first bytes) ps h = ascending-replaced first (first + length bytes) bytes ps (omega arith) h
+ascending-edit (clearing first count) ps h = ascending-replaced first (first + count) [] ps (omega arith) h
+
+empty-edit : (e : Edit) (ps : Patches) → Ascending 0 ps → count-of e ≡ 0 → edit e ps ≡ ps
+empty-edit (setting first bytes) ps h z = ap₂ (λ (end : ℕ) (bs : List ℕ). replaced first end bs ps) (omega arith) (nil-from-length bytes z) ∙ replaced-none 0 first ps h
+empty-edit (clearing first count) ps h z = ap (λ (end : ℕ). replaced first end [] ps) (omega arith) ∙ replaced-none 0 first ps h
+
+-- an edit that ends by 2 ^ 64 is judged by the patches afterwards
+
+within : (e : Edit) (o : Option Patches) → first-of e + count-of e ≤ 2 ^ 64 → judged o e ≡ crowding o e
+within e o h = rw (le-ltb (2 ^ 64) (first-of e + count-of e) h)
+
+past : (e : Edit) (o : Option Patches) → 2 ^ 64 < first-of e + count-of e → judged o e ≡ Some PastTheEnd
+past e o h = rw (lt-ltb (2 ^ 64) (first-of e + count-of e) h)
+
+roomy : (e : Edit) (ps : Patches) → length (edit e ps) ≤ 256 → crowding (Some ps) e ≡ None
+roomy e ps h = rw (le-ltb 256 (length (edit e ps)) h)
+
+too-many : (e : Edit) (ps : Patches) → 256 < length (edit e ps) → crowding (Some ps) e ≡ Some TooManyPatches
+too-many e ps h = rw (lt-ltb 256 (length (edit e ps)) h)
+
+few-if : (e : Edit) (ps : Patches) → judged (Some ps) e ≡ None → length (edit e ps) ≤ 256
+few-if e ps h = go (ltb (2 ^ 64) (first-of e + count-of e)) (ltb 256 (length (edit e ps))) refl h
+  where
+    go : (b c : Bool) → ltb 256 (length (edit e ps)) ≡ c → cond b (Some PastTheEnd) (cond c (Some TooManyPatches) None) ≡ None → length (edit e ps) ≤ 256
+    go true c q h = let z : _≡_ {A = ℕ} 0 1 = cc in absurd (omega arith)
+    go false true q h = let z : _≡_ {A = ℕ} 0 1 = cc in absurd (omega arith)
+    go false false q h = ltb-false 256 (length (edit e ps)) q
+
+-- accepted edits keep patches lawful
+pub lawful-edit : (e : Edit) (ps : Patches) → judged (Some ps) e ≡ None → LawfulPatches ps → LawfulPatches (edit e ps)
+lawful-edit e ps h k = record { ascending = ascending-edit e ps (k .ascending); few = few-if e ps h }
+
+-- what holds of the old and, where an edit is accepted, of the new
+unless-both : {X : Type 0} (o : Option Refusal) (old new : X) (P : X → Type 0) → P old → (o ≡ None → P new) → P (unless o old new)
+unless-both None old new P h k = k refl
+unless-both (Some n) old new P h k = h
+
+done-if : {X : Type 0} (o : Option Refusal) (old new : X) → outcome o ≡ Ok tt → unless o old new ≡ new
+done-if None old new q = refl
+done-if (Some n) old new q = let z : _≡_ {A = ℕ} 0 1 = cc in absurd (omega arith)
+
+kept-if : {X : Type 0} (o : Option Refusal) (old new : X) (n : Refusal) → outcome o ≡ Err n → unless o old new ≡ old
+kept-if None old new n q = let z : _≡_ {A = ℕ} 0 1 = cc in absurd (omega arith)
+kept-if (Some k) old new n q = refl
+
+-- the laws of an edit of an overlay
+edit-laws : (e : Edit) (old : Patches) → LawfulPatches old → EditLaws e old (unless (judged (Some old) e) old (edit e old)) (outcome (judged (Some old) e))
+edit-laws e old law = record {
+  accepted = λ q. subst (λ (ps : Patches). Changes e (lookup old) (lookup ps)) (sym (done-if (judged (Some old) e) old (edit e old) q)) (changes e old);
+  refused = kept-if (judged (Some old) e) old (edit e old);
+  empty = λ z. unless-both (judged (Some old) e) old (edit e old) (λ ps. ps ≡ old) refl (λ _. empty-edit e old (law .ascending) z);
+  past = λ h. ap outcome (past e (Some old) h);
+  weighed = λ h. record {
+    afterwards = length (edit e old);
+    exact = exactly-edited e old (edit e old) (ascending-edit e old (law .ascending)) (changes e old);
+    too-many = λ k. ap outcome (within e (Some old) h ∙ too-many e old k);
+    accepted = λ k. ap outcome (within e (Some old) h ∙ roomy e old k);
+  };
+  few = unless-both (judged (Some old) e) old (edit e old) (λ ps. length ps ≤ 256) (law .few) (few-if e old);
+}
+
+-- what an edit that ends by 2 ^ 64 answers and leaves
+pub edits-within : (e : Edit) (old new : Patches) (r : Outcome) → first-of e + count-of e ≤ 2 ^ 64 → r ≡ outcome (crowded (edit e old)) → new ≡ unless (crowded (edit e old)) old (edit e old) → EditsPatches old new e r
+edits-within e old new r h a n = let j = sym (within e (Some old) h) in record { answer = a ∙ ap outcome j; patches = n ∙ ap (λ (o : Option Refusal). unless o old (edit e old)) j }
+
+pub laws-of : (e : Edit) (old new : Patches) (r : Outcome) → LawfulPatches old → EditsPatches old new e r → EditLaws e old new r
+laws-of e old new r law d = subst (EditLaws e old new) (sym (d .answer)) (subst (λ (ps : Patches). EditLaws e old ps (outcome (judged (Some old) e))) (sym (d .patches)) (edit-laws e old law))
+
+-- taking back leaves no more than there were
+fewer : (a b : ℕ) (ps : Patches) → a ≤ b → length (before a ps) + length (from b ps) ≤ length ps
+fewer a b [] h = omega arith
+fewer a b (p ∷ ps) h =
+    let ih = fewer a b ps h in
+    cond-both (ltb (p .address) a) (p ∷ before a ps) (before a ps) (λ qs. length qs + length (from b (p ∷ ps)) ≤ suc (length ps))
+    (λ e. rw (lt-leb b (p .address) (omega (arith, ltb-true (p .address) a e))) (omega arith))
+    (λ e. cond-both (leb b (p .address)) (p ∷ from b ps) (from b ps) (λ rs. length (before a ps) + length rs ≤ suc (length ps)) (λ _. omega arith) (λ _. omega arith))
+
+pub clear-law : (first count : ℕ) (old : Patches) (r : Outcome) → LawfulPatches old → r ≡ outcome (judged (Some old) (clearing first count)) → ClearLaw first count r
+clear-law first count old r law e h =
+    e ∙ ap outcome (within (clearing first count) (Some old) h
+    ∙ roomy (clearing first count) old (simp length-append (omega (arith, law .few, fewer first (first + count) old (omega arith)))))
+
+-- edits of a pile
+
+edited-there : (ls : List Layer) (k : ℕ) (e : Edit) (ps : Patches) → patches-at ls k ≡ Some ps → patches-at (edit-at ls k e) k ≡ Some (edit e ps)
+edited-there [] k e ps q = let z : _≡_ {A = ℕ} 0 1 = cc in absurd (omega arith)
+edited-there (plain r ∷ ls) zero e ps q = let z : _≡_ {A = ℕ} 0 1 = cc in absurd (omega arith)
+edited-there (overlay qs ∷ ls) zero e ps q = let z : qs ≡ ps = cc in ap (λ (rs : Patches). Some (edit e rs)) z
+edited-there (l ∷ ls) (suc k) e ps q = edited-there ls k e ps q
+
+edited-elsewhere : (ls : List Layer) (k j : ℕ) (e : Edit) → (j ≡ k → ⊥) → patches-at (edit-at ls k e) j ≡ patches-at ls j
+edited-elsewhere [] k j e n = refl
+edited-elsewhere (l ∷ ls) zero zero e n = absurd (n refl)
+edited-elsewhere (l ∷ ls) zero (suc j) e n = refl
+edited-elsewhere (l ∷ ls) (suc k) zero e n = refl
+edited-elsewhere (l ∷ ls) (suc k) (suc j) e n = edited-elsewhere ls k j e (λ q. n (ap suc q))
+
+lawful-there : (ls : List Layer) (k : ℕ) (ps : Patches) → LawfulLayers ls → patches-at ls k ≡ Some ps → LawfulPatches ps
+lawful-there [] k ps h q = let z : _≡_ {A = ℕ} 0 1 = cc in absurd (omega arith)
+lawful-there (plain r ∷ ls) zero ps h q = let z : _≡_ {A = ℕ} 0 1 = cc in absurd (omega arith)
+lawful-there (overlay qs ∷ ls) zero ps h q = let z : qs ≡ ps = cc in subst LawfulPatches z (h .0)
+lawful-there (l ∷ ls) (suc k) ps h q = lawful-there ls k ps (h .1) q
+
+pub pile-edit-laws : Every-edit-changes-its-addresses-alone
+pile-edit-laws p k e = record {
+  overlay = λ ps q. let o = ap (λ (o : Option Patches). judged o e) q in (
+    unless (refusal (p .pile) k e) ps (edit e ps),
+    there ps q (refusal (p .pile) k e),
+    subst (λ (o : Option Refusal). EditLaws e ps (unless o ps (edit e ps)) (outcome o)) (sym o) (edit-laws e ps (lawful-there ls k ps (p .lawful .layers) q))
+  );
+  none = λ q. let o = ap (λ (o : Option Patches). judged o e) q in record {
+    same = ap (λ (ks : List Layer). record { layers = ks; base = p .pile .base }) (stays q (refusal (p .pile) k e) o);
+    past = λ h. ap outcome (o ∙ past e None h);
+    refused = λ h. ap outcome (o ∙ within e None h);
+  };
+  elsewhere = λ j n. unless-both (refusal (p .pile) k e) ls (edit-at ls k e) (λ ks. patches-at ks j ≡ patches-at ls j) refl (λ _. edited-elsewhere ls k j e n);
+}
+  where
+    ls : List Layer
+    ls = p .pile .layers
+
+    there : (ps : Patches) → patches-at ls k ≡ Some ps → (o : Option Refusal) → patches-at (unless o ls (edit-at ls k e)) k ≡ Some (unless o ps (edit e ps))
+    there ps q None = edited-there ls k e ps q
+    there ps q (Some n) = q
+
+    stays : patches-at ls k ≡ None → (o : Option Refusal) → o ≡ judged None e → unless o ls (edit-at ls k e) ≡ ls
+    stays q None r = let b = refused-none (ltb (2 ^ 64) (first-of e + count-of e)) r in absurd b
+      where
+        refused-none : (b : Bool) → None ≡ cond b (Some PastTheEnd) (Some NoOverlay) → ⊥
+        refused-none true r = let z : _≡_ {A = ℕ} 0 1 = cc in omega arith
+        refused-none false r = let z : _≡_ {A = ℕ} 0 1 = cc in omega arith
+    stays q (Some n) r = refl
