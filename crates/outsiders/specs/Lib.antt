@@ -1,1 +1,3 @@
 pub mod Shapes
+pub mod Spares
+pub mod Sights
