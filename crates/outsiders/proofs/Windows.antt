@@ -1,5 +1,5 @@
 use mathlib.Core.Path.{_≡_, refl, sym, ap, _∙_, subst}
-use mathlib.Core.List.{List, [], _∷_, _++_, append-nil, List·Memᴰ, List·Memᴰ·not-nil, List·Memᴰ·eq-of-singleton}
+use mathlib.Core.List.{List, [], _∷_, append-nil, List·Memᴰ, List·Memᴰ·not-nil, List·Memᴰ·eq-of-singleton}
 use mathlib.Core.Bool.{Bool, true, false, cond, _&&_}
 use mathlib.Core.Logic.{_⊎_, inl, inr}
 use Prim.Native.Nat.{ℕ, zero, suc, _+_, _<_, _≤_, _^_}
@@ -62,10 +62,14 @@ module _ (start size : ℕ) (below : LawfulPile) where
   blamed : (at : ℕ) (f : Fault) → shown seen at ≡ Err f → Arose seen f → (k : ℕ) → f .depth ≡ k
       → (f ≡ own at (f .cause)) ⊎ ((d : ℕ) × (f .depth ≡ suc d) × Arose (below .pile) (record { depth = d; address = f .address; cause = f .cause }))
   blamed at f e s zero q = inl (own-at at f q (walk-lawful (window start size) .faults (shown (below .pile)) at f e))
-  blamed at f e s (suc d) q = inr (d, q, record {
-    within = omega (arith, s .within);
-    there = subst (λ (j : ℕ). shown (from-depth j seen) (f .address) ≡ Err (own (f .address) (f .cause))) q (s .there);
-  })
+  blamed at f e s (suc d) q = inr (
+    d,
+    q,
+    record {
+      within = omega (arith, s .within);
+      there = subst (λ (j : ℕ). shown (from-depth j seen) (f .address) ≡ Err (own (f .address) (f .cause))) q (s .there);
+    },
+  )
 
   pub blames : (at : ℕ) (r : Answer) → Locates seen at r → Blames start size (below .pile) at r
   blames at r l = record { answer = l .answer; arose = λ f e n. blamed at f (sym (l .answer) ∙ e) (l .arose f e (omega arith)) (f .depth) refl }

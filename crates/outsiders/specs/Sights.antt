@@ -4,7 +4,7 @@ use Prim.Native.Nat.{ℕ, suc, _+_, _<_, _≤_}
 use lib.ListN.{length}
 use Rattle.std.specs.declared.result.Result.the-variants.{Err}
 use Rattle.spaces.specs.declared.fault.Fault.{Fault}
-use Rattle.spaces.specs.declared.watched.Watched.{Watched}
+use Rattle.spaces.specs.declared.watch.Watched.{Watched}
 use Rattle.spaces.specs.Maps.{Answer, own}
 use Rattle.spaces.specs.Walks.{found}
 use Rattle.spaces.specs.Lawful.{walk-on}

@@ -1,14 +1,14 @@
 use mathlib.Core.Path.{_≡_, refl, sym, ap, _∙_}
 use mathlib.Core.List.{List, [], _∷_, List·Memᴰ, List·Memᴰ·head, List·Memᴰ·tail}
 use mathlib.Core.Bool.{Bool, true, false}
-use mathlib.Core.Logic.{_⊎_, inr}
+use mathlib.Core.Logic.{inr}
 use Prim.Native.Nat.{ℕ, _+_, _^_}
 use native.Mathlib.Omega.{arith}
 use lib.Dec.{ltb}
 use Rattle.std.specs.declared.result.Result.the-variants.{Ok, Err}
 use Rattle.spaces.specs.declared.fault.Fault.{Fault}
 use Rattle.spaces.specs.Maps.{Answer, Map, climbed, raised}
-use Rattle.spaces.specs.Rules.{Rule, Agree, Own, Climbs, LawfulRule}
+use Rattle.spaces.specs.Rules.{Rule, Agree, Climbs, LawfulRule}
 use Rattle.spaces.specs.Lawful.{err-err}
 
 -- from the answer at an address: a byte stands, and after a fault the further address is tried if there is one

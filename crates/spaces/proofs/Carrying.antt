@@ -2,15 +2,13 @@ use mathlib.Core.Path.{_≡_, sym, ap, _∙_, subst}
 use mathlib.Core.List.{[], _∷_}
 use Prim.Native.Nat.{ℕ}
 use native.Mathlib.Omega.{arith}
-use Rattle.std.specs.declared.option.Option.the-variants.{Some, None}
+use Rattle.std.specs.declared.option.Option.the-variants.{None}
 use Rattle.std.specs.declared.result.Result.the-variants.{Ok, Err}
 use Rattle.spaces.specs.Maps.{Answer}
 use Rattle.spaces.specs.Reads.{Got, then-got}
 use Rattle.spaces.specs.Piles.{Pile, shown, LawfulPile}
-use Rattle.spaces.specs.Trails.{trail}
 use Rattle.spaces.specs.Edits.{Edit, refusal, edited, Outcome, outcome, Edits}
 use Rattle.spaces.specs.EditLaws.{PileEditLaws}
-use Rattle.spaces.specs.PileLaws.{Misses}
 use Rattle.spaces.specs.CallLaws.{Locates, Watches}
 use Rattle.spaces.proofs.Arising.{arose}
 use Rattle.spaces.proofs.Editing.{pile-edit-laws}

@@ -1,5 +1,5 @@
 use mathlib.Core.Path.{_≡_, refl, sym, ap, ap₂, _∙_, subst}
-use mathlib.Core.List.{List, [], _∷_, _++_}
+use mathlib.Core.List.{List, [], _∷_}
 use mathlib.Core.Bool.{Bool, true, false, cond}
 use Prim.Native.Nat.{ℕ, zero, suc, _+_, _<_, _≤_, _^_}
 use native.Mathlib.Omega.{arith}
@@ -13,9 +13,9 @@ use Rattle.std.proofs.shelf.Tests.{ltb-true, ltb-false, lt-ltb, le-ltb, lt-leb,
 use Rattle.spaces.specs.declared.refusal.Refusal.{Refusal}
 use Rattle.spaces.specs.declared.refusal.Refusal.the-variants.{PastTheEnd, NoOverlay, TooManyPatches}
 use Rattle.spaces.specs.Patches.{Patches, Ascending, lookup, before, from, replaced, LawfulPatches}
-use Rattle.spaces.specs.Piles.{Layer, plain, overlay, Pile, LawfulLayers, LawfulPile}
-use Rattle.spaces.specs.Edits.{Edit, setting, clearing, first-of, count-of, edit, patches-at, crowded, crowding, judged, refusal, edit-at, unless, edited, Outcome, outcome, EditsPatches}
-use Rattle.spaces.specs.EditLaws.{Changes, Weighed, EditLaws, ClearLaw, NoneThere, PileEditLaws, Every-edit-changes-its-addresses-alone}
+use Rattle.spaces.specs.Piles.{Layer, plain, overlay, LawfulLayers}
+use Rattle.spaces.specs.Edits.{Edit, setting, clearing, first-of, count-of, edit, patches-at, crowded, crowding, judged, refusal, edit-at, unless, Outcome, outcome, EditsPatches}
+use Rattle.spaces.specs.EditLaws.{Changes, EditLaws, ClearLaw, Every-edit-changes-its-addresses-alone}
 use Rattle.spaces.proofs.Ascents.{ascending-replaced, replaced-none}
 use Rattle.spaces.proofs.Finding.{changes}
 use Rattle.spaces.proofs.Places.{exactly-edited}
@@ -130,7 +130,7 @@ pile-edit-laws p k e = record {
   overlay = λ ps q. let o = ap (λ (o : Option Patches). judged o e) q in (
     unless (refusal (p .pile) k e) ps (edit e ps),
     there ps q (refusal (p .pile) k e),
-    subst (λ (o : Option Refusal). EditLaws e ps (unless o ps (edit e ps)) (outcome o)) (sym o) (edit-laws e ps (lawful-there ls k ps (p .lawful .layers) q))
+    subst (λ (o : Option Refusal). EditLaws e ps (unless o ps (edit e ps)) (outcome o)) (sym o) (edit-laws e ps (lawful-there ls k ps (p .lawful .layers) q)),
   );
   none = λ q. let o = ap (λ (o : Option Patches). judged o e) q in record {
     same = ap (λ (ks : List Layer). record { layers = ks; base = p .pile .base }) (stays q (refusal (p .pile) k e) o);

@@ -1,5 +1,5 @@
 use mathlib.Core.Path.{_≡_, refl, sym, ap, _∙_}
-use mathlib.Core.List.{List, [], _∷_}
+use mathlib.Core.List.{[], _∷_}
 use mathlib.Core.Logic.{_⊎_, inl, inr}
 use mathlib.Core.Bool.{Bool, true, false, cond}
 use Prim.Native.Nat.{ℕ, zero, suc, _+_, _-_, _<_, _≤_}
@@ -11,7 +11,7 @@ use Rattle.std.specs.declared.option.Option.the-variants.{Some}
 use Rattle.std.proofs.shelf.Tests.{eq-eqb, ne-eqb, eqb-true, cases-lt}
 use Rattle.spaces.specs.declared.patch.Patch.{Patch}
 use Rattle.spaces.specs.Patches.{Patches, Ascending, lookup}
-use Rattle.spaces.specs.Edits.{Edit, setting, clearing, edit, first-of, count-of}
+use Rattle.spaces.specs.Edits.{Edit, setting, clearing, first-of, count-of}
 use Rattle.spaces.specs.EditLaws.{Patching, Patched, Inside, Outside, Changes, Would, Exactly}
 use Rattle.spaces.proofs.Ascents.{linked}
 

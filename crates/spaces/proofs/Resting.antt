@@ -8,14 +8,13 @@ use Rattle.std.proofs.shelf.Tests.{cases-eq}
 use Rattle.std.specs.declared.option.Option.{Option}
 use Rattle.std.specs.declared.option.Option.the-variants.{Some, None}
 use Rattle.std.specs.declared.result.Result.the-variants.{Ok, Err}
-use Rattle.spaces.specs.declared.fault.Fault.{Fault}
 use Rattle.spaces.specs.declared.refusal.Refusal.{Refusal}
 use Rattle.spaces.specs.Maps.{Answer, Map}
-use Rattle.spaces.specs.Reads.{Got, got, then-got, then-through, through}
+use Rattle.spaces.specs.Reads.{got, then-got, then-through, through}
 use Rattle.spaces.specs.Rules.{Rule, Agree}
 use Rattle.spaces.specs.Walks.{walked}
 use Rattle.spaces.specs.Patches.{Patches, lookup}
-use Rattle.spaces.specs.Piles.{Layer, plain, overlay, patched, rule, Pile, composed, shown, LawfulLayer, LawfulLayers, LawfulPile}
+use Rattle.spaces.specs.Piles.{Layer, plain, overlay, patched, rule, Pile, composed, shown, LawfulLayer, LawfulLayers}
 use Rattle.spaces.specs.Trails.{trail-of, trail}
 use Rattle.spaces.specs.Edits.{Edit, patches-of, patches-at, patch-in, patch-at, edit-at, edited, refusal, unless, Outcome, outcome}
 use Rattle.spaces.specs.EditLaws.{Outside, EditLaws, PileEditLaws}

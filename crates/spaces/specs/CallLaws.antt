@@ -4,7 +4,7 @@ use Prim.Native.Nat.{ℕ, _≤_}
 use lib.ListN.{length}
 use Rattle.std.specs.declared.result.Result.the-variants.{Err}
 use Rattle.spaces.specs.declared.fault.Fault.{Fault}
-use Rattle.spaces.specs.declared.watched.Watched.{Watched}
+use Rattle.spaces.specs.declared.watch.Watched.{Watched}
 use Rattle.spaces.specs.Maps.{Answer}
 use Rattle.spaces.specs.Piles.{Pile, shown}
 use Rattle.spaces.specs.Trails.{trail}

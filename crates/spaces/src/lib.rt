@@ -1,17 +1,15 @@
 // Address spaces in a pile: a bottom that holds bytes, and layers that each show the space below in another way.
 
-mod calls;
 mod cause;
 mod fault;
 mod laws;
+mod origin;
 mod patch;
 mod refusal;
 mod rise;
 mod space;
-mod watched;
+mod watch;
 
-pub use calls::locate;
-pub use calls::watched_set;
 pub use cause::Cause;
 pub use cause::CauseDebug;
 pub use cause::CausePartialEq;
@@ -24,6 +22,7 @@ pub use laws::every_fault_arose_where_it_says;
 pub use laws::every_overlay_shows_its_patches;
 pub use laws::every_read_rests_on_its_trail;
 pub use laws::every_walk_is_lawful;
+pub use origin::locate;
 pub use patch::Patch;
 pub use refusal::Refusal;
 pub use refusal::RefusalDebug;
@@ -31,6 +30,7 @@ pub use refusal::RefusalPartialEq;
 pub use rise::climb;
 pub use rise::no_overlay_here;
 pub use space::Space;
-pub use watched::Watched;
-pub use watched::WatchedDebug;
-pub use watched::WatchedPartialEq;
+pub use watch::Watched;
+pub use watch::WatchedDebug;
+pub use watch::WatchedPartialEq;
+pub use watch::watched_set;

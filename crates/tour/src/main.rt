@@ -1,3 +1,5 @@
+mod tell;
+
 use extents::Table;
 use images::Image;
 use images::ImageSpace;
@@ -5,19 +7,25 @@ use images::LimeRange;
 use images::LimeRangeDefault;
 use images::LimeRangeExtent;
 use images::LimeRangeStored;
-use images::NotLoaded;
 use images::RawExtent;
 use images::RawExtentDefault;
 use images::RawExtentExtent;
 use images::RawExtentStored;
 use images::load_lime;
 use images::load_raw;
-use spaces::Fault;
+use overlays::Overlay;
+use overlays::OverlaySpace;
 use spaces::Space;
 use std::fs;
 use std::io;
+use tell::list;
+use tell::tell_byte;
+use tell::tell_clear;
+use tell::tell_fill;
+use tell::tell_load;
+use tell::tell_set;
 
-// One task from beginning to end: dumps are loaded, listed, read, and refused where they are damaged.
+// One task from beginning to end: dumps are loaded, listed, read and patched, and refused where they are damaged.
 fn main(rt: LibcRuntime) -> io::Result<()> {
     read_aisle(&rt)?;
     read_cut(&rt)?;
@@ -28,7 +36,7 @@ fn main(rt: LibcRuntime) -> io::Result<()> {
     try_load(&rt, "aisle.lime", 2)
 }
 
-// The dump of the sample cart.
+// The dump of the sample cart, as it is and under an overlay.
 fn read_aisle(rt: &LibcRuntime) -> io::Result<()> {
     let file = fs::read(rt, "aisle.lime")?;
     let mut memory = [LimeRange::default(); 64];
@@ -39,7 +47,22 @@ fn read_aisle(rt: &LibcRuntime) -> io::Result<()> {
     tell_byte(rt, &image, 0x1001)?;
     tell_byte(rt, &image, 0x5fff)?;
     tell_byte(rt, &image, 0x6000)?;
-    tell_fill(rt, &image, 0x5ffc)
+    tell_fill(rt, &image, 0x5ffc)?;
+    patch(rt, &mut Overlay::new(image))
+}
+
+// Bytes are patched, read again and taken back, until no more patches fit.
+fn patch<S: Space>(rt: &LibcRuntime, space: &mut S) -> io::Result<()> {
+    println!(rt, "under an overlay")?;
+    tell_set(rt, space, 0, 0x5ffd, b"ZZ", 0x5ffd)?;
+    tell_fill(rt, space, 0x5ffc)?;
+    tell_clear(rt, space, 0, 0x5ffd, 1)?;
+    tell_fill(rt, space, 0x5ffc)?;
+    tell_set(rt, space, 0, 0x6000, &[0xee; 255], 0x6000)?;
+    tell_set(rt, space, 0, 0x60ff, b"Z", 0x60ff)?;
+    tell_clear(rt, space, 0, 0, u64::MAX)?;
+    tell_fill(rt, space, 0x5ffc)?;
+    tell_set(rt, space, 1, 0x5ffd, b"Z", 0x5ffd)
 }
 
 // The same dump without its last two bytes.
@@ -69,71 +92,4 @@ fn try_load(rt: &LibcRuntime, name: &str, room: usize) -> io::Result<()> {
     let mut memory = [LimeRange::default(); 64];
     let mut table = Table::new(&mut memory[0..room.min(64)]);
     tell_load(rt, name, load_lime(&file, &mut table))
-}
-
-fn tell_load(rt: &LibcRuntime, name: &str, loaded: Result<usize, NotLoaded>) -> io::Result<()> {
-    match loaded {
-        Ok(count) => println!(rt, "{name}: loaded, extents: {count}"),
-        Err(not) => {
-            let number = not.refusal.number();
-            let place = not.place;
-            let written = not.written;
-            println!(
-                rt,
-                "{name}: refused {number:02x} at place {place}, extents before it: {written}"
-            )
-        }
-    }
-}
-
-fn list(rt: &LibcRuntime, table: &Table<'_, LimeRange>) -> io::Result<()> {
-    for i in 0..table.len() {
-        if let Some(range) = table.get(i) {
-            let first = range.first;
-            let last = range.last;
-            let place = range.place;
-            println!(
-                rt,
-                "  {first:016x} to {last:016x}, bytes from place {place} on"
-            )?;
-        }
-    }
-    Ok(())
-}
-
-fn tell_byte<S: Space>(rt: &LibcRuntime, space: &S, at: u64) -> io::Result<()> {
-    match space.byte(at) {
-        Ok(b) => println!(rt, "  {at:016x} has {b:02x}"),
-        Err(fault) => {
-            print!(rt, "  {at:016x} has no byte: ")?;
-            tell_fault(rt, fault)
-        }
-    }
-}
-
-// Up to eight bytes from an address on.
-fn tell_fill<S: Space>(rt: &LibcRuntime, space: &S, first: u64) -> io::Result<()> {
-    let mut out = [0u8; 8];
-    let (count, fault) = space.fill(first, &mut out);
-    print!(rt, "  {first:016x} on:")?;
-    for b in out.iter().take(count) {
-        print!(rt, " {b:02x}")?;
-    }
-    match fault {
-        None => println!(rt, ""),
-        Some(fault) => {
-            print!(rt, ", then no byte: ")?;
-            tell_fault(rt, fault)
-        }
-    }
-}
-
-fn tell_fault(rt: &LibcRuntime, fault: Fault) -> io::Result<()> {
-    let depth = fault.depth;
-    let address = fault.address;
-    let cause = fault.cause;
-    println!(
-        rt,
-        "depth {depth}, address {address:016x}, cause {cause:02x}"
-    )
 }

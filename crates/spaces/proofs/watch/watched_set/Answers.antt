@@ -1,6 +1,6 @@
 use Rattle.spaces.specs.Edits.{setting}
 use Rattle.spaces.proofs.Carrying.{watches}
-use Rattle.spaces.proofs.calls.watched_set.Needs as need
+use Rattle.spaces.proofs.watch.watched_set.Needs as need
 
 pub returns : need.returns
 returns g c =
