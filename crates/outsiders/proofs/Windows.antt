@@ -15,7 +15,6 @@ use Rattle.spaces.specs.Reads.{then-through}
 use Rattle.spaces.specs.Walks.{give, fail, ask, walked}
 use Rattle.spaces.specs.Rules.{Own, Climbs}
 use Rattle.spaces.specs.Piles.{Pile, shown, from-depth, LawfulPile}
-use Rattle.spaces.specs.Trails.{trail}
 use Rattle.spaces.specs.Edits.{setting}
 use Rattle.spaces.specs.PileLaws.{Arose, Misses}
 use Rattle.spaces.specs.CallLaws.{Locates}
@@ -46,12 +45,12 @@ module _ (start size : ℕ) (below : LawfulPile) where
   one-trail f (Ok b) at x t = subst (λ (l : List ℕ). List·Memᴰ x l) (append-nil (f at)) t
   one-trail f (Err g) at x t = subst (λ (l : List ℕ). List·Memᴰ x l) (append-nil (f at)) t
 
-  pub unseen : (first : ℕ) (bytes : List ℕ) (at : ℕ) → (first + length bytes ≤ start) ⊎ (start + size ≤ first) → Misses (setting first bytes) (trail seen (at ∷ []) 1)
-  unseen first bytes at h x t = step h (rests-inside (shown (below .pile)) at x (one-trail (λ a. walked a (window start size a) (shown (below .pile)) .1) (shown seen at) at x t))
+  pub unseen : (first : ℕ) (bytes : List ℕ) (at : ℕ) → (first + length bytes ≤ start) ⊎ (start + size ≤ first) → Misses seen (at ∷ []) 1 (setting first bytes)
+  unseen first bytes at h x t i = step h (rests-inside (shown (below .pile)) at x (one-trail (λ a. walked a (window start size a) (shown (below .pile)) .1) (shown seen at) at x t))
     where
-      step : (first + length bytes ≤ start) ⊎ (start + size ≤ first) → (start ≤ x) × (x < start + size) → (x < first) ⊎ (first + length bytes ≤ x)
-      step (inl l) i = inr (omega arith)
-      step (inr l) i = inl (omega arith)
+      step : (first + length bytes ≤ start) ⊎ (start + size ≤ first) → (start ≤ x) × (x < start + size) → ⊥
+      step (inl l) s = omega arith
+      step (inr l) s = omega arith
 
   -- a fault of depth 0 is the window's own
   own-at : (at : ℕ) (f : Fault) → f .depth ≡ 0 → Own at f ⊎ Climbs (shown (below .pile)) (walked at (window start size at) (shown (below .pile)) .1) f → f ≡ own at (f .cause)

@@ -1,3 +1,4 @@
 pub mod Searching
 pub mod Replacing
 pub mod Laying
+pub mod Splicing

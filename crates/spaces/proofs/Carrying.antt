@@ -11,8 +11,8 @@ use Rattle.spaces.specs.Edits.{Edit, refusal, edited, Outcome, outcome, Edits}
 use Rattle.spaces.specs.EditLaws.{PileEditLaws}
 use Rattle.spaces.specs.CallLaws.{Locates, Watches}
 use Rattle.spaces.proofs.Arising.{arose}
-use Rattle.spaces.proofs.Editing.{pile-edit-laws}
-use Rattle.spaces.proofs.Resting.{kept-off-trail}
+use Rattle.spaces.proofs.PileEdits.{pile-edit-laws}
+use Rattle.spaces.proofs.OffTrail.{kept-off-trail}
 
 pub locates : (p : LawfulPile) (at : ℕ) (r : Answer) → r ≡ shown (p .pile) at → Locates (p .pile) at r
 locates p at r e = record { answer = e; arose = λ f q n. arose p n at f (sym e ∙ q) }

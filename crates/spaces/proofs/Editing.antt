@@ -1,7 +1,7 @@
 use mathlib.Core.Path.{_≡_, refl, sym, ap, ap₂, _∙_, subst}
 use mathlib.Core.List.{List, [], _∷_}
 use mathlib.Core.Bool.{Bool, true, false, cond}
-use Prim.Native.Nat.{ℕ, zero, suc, _+_, _<_, _≤_, _^_}
+use Prim.Native.Nat.{ℕ, suc, _+_, _<_, _≤_, _^_}
 use native.Mathlib.Omega.{arith}
 use lib.Dec.{leb, ltb}
 use lib.ListN.{length}
@@ -11,11 +11,10 @@ use Rattle.std.specs.declared.result.Result.the-variants.{Ok, Err}
 use Rattle.std.proofs.shelf.Lists.{length-append, nil-from-length}
 use Rattle.std.proofs.shelf.Tests.{ltb-true, ltb-false, lt-ltb, le-ltb, lt-leb, cond-both}
 use Rattle.spaces.specs.declared.refusal.Refusal.{Refusal}
-use Rattle.spaces.specs.declared.refusal.Refusal.the-variants.{PastTheEnd, NoOverlay, TooManyPatches}
+use Rattle.spaces.specs.declared.refusal.Refusal.the-variants.{PastTheEnd, TooManyPatches}
 use Rattle.spaces.specs.Patches.{Patches, Ascending, lookup, before, from, replaced, LawfulPatches}
-use Rattle.spaces.specs.Piles.{Layer, plain, overlay, LawfulLayers}
-use Rattle.spaces.specs.Edits.{Edit, setting, clearing, first-of, count-of, edit, patches-at, crowded, crowding, judged, refusal, edit-at, unless, Outcome, outcome, EditsPatches}
-use Rattle.spaces.specs.EditLaws.{Changes, EditLaws, ClearLaw, Every-edit-changes-its-addresses-alone}
+use Rattle.spaces.specs.Edits.{Edit, setting, clearing, first-of, count-of, edit, crowded, crowding, judged, unless, Outcome, outcome, EditsPatches}
+use Rattle.spaces.specs.EditLaws.{Changes, EditLaws, ClearLaw}
 use Rattle.spaces.proofs.Ascents.{ascending-replaced, replaced-none}
 use Rattle.spaces.proofs.Finding.{changes}
 use Rattle.spaces.proofs.Places.{exactly-edited}
@@ -30,10 +29,10 @@ empty-edit (clearing first count) ps h z = ap (λ (end : ℕ). replaced first en
 
 -- an edit that ends by 2 ^ 64 is judged by the patches afterwards
 
-within : (e : Edit) (o : Option Patches) → first-of e + count-of e ≤ 2 ^ 64 → judged o e ≡ crowding o e
+pub within : (e : Edit) (o : Option Patches) → first-of e + count-of e ≤ 2 ^ 64 → judged o e ≡ crowding o e
 within e o h = rw (le-ltb (2 ^ 64) (first-of e + count-of e) h)
 
-past : (e : Edit) (o : Option Patches) → 2 ^ 64 < first-of e + count-of e → judged o e ≡ Some PastTheEnd
+pub past : (e : Edit) (o : Option Patches) → 2 ^ 64 < first-of e + count-of e → judged o e ≡ Some PastTheEnd
 past e o h = rw (lt-ltb (2 ^ 64) (first-of e + count-of e) h)
 
 roomy : (e : Edit) (ps : Patches) → length (edit e ps) ≤ 256 → crowding (Some ps) e ≡ None
@@ -55,7 +54,7 @@ pub lawful-edit : (e : Edit) (ps : Patches) → judged (Some ps) e ≡ None → 
 lawful-edit e ps h k = record { ascending = ascending-edit e ps (k .ascending); few = few-if e ps h }
 
 -- what holds of the old and, where an edit is accepted, of the new
-unless-both : {X : Type 0} (o : Option Refusal) (old new : X) (P : X → Type 0) → P old → (o ≡ None → P new) → P (unless o old new)
+pub unless-both : {X : Type 0} (o : Option Refusal) (old new : X) (P : X → Type 0) → P old → (o ≡ None → P new) → P (unless o old new)
 unless-both None old new P h k = k refl
 unless-both (Some n) old new P h k = h
 
@@ -68,7 +67,7 @@ kept-if None old new n q = let z : _≡_ {A = ℕ} 0 1 = cc in absurd (omega ari
 kept-if (Some k) old new n q = refl
 
 -- the laws of an edit of an overlay
-edit-laws : (e : Edit) (old : Patches) → LawfulPatches old → EditLaws e old (unless (judged (Some old) e) old (edit e old)) (outcome (judged (Some old) e))
+pub edit-laws : (e : Edit) (old : Patches) → LawfulPatches old → EditLaws e old (unless (judged (Some old) e) old (edit e old)) (outcome (judged (Some old) e))
 edit-laws e old law = record {
   accepted = λ q. subst (λ (ps : Patches). Changes e (lookup old) (lookup ps)) (sym (done-if (judged (Some old) e) old (edit e old) q)) (changes e old);
   refused = kept-if (judged (Some old) e) old (edit e old);
@@ -103,54 +102,3 @@ pub clear-law : (first count : ℕ) (old : Patches) (r : Outcome) → LawfulPatc
 clear-law first count old r law e h =
     e ∙ ap outcome (within (clearing first count) (Some old) h
     ∙ roomy (clearing first count) old (simp length-append (omega (arith, law .few, fewer first (first + count) old (omega arith)))))
-
--- edits of a pile
-
-edited-there : (ls : List Layer) (k : ℕ) (e : Edit) (ps : Patches) → patches-at ls k ≡ Some ps → patches-at (edit-at ls k e) k ≡ Some (edit e ps)
-edited-there [] k e ps q = let z : _≡_ {A = ℕ} 0 1 = cc in absurd (omega arith)
-edited-there (plain r ∷ ls) zero e ps q = let z : _≡_ {A = ℕ} 0 1 = cc in absurd (omega arith)
-edited-there (overlay qs ∷ ls) zero e ps q = let z : qs ≡ ps = cc in ap (λ (rs : Patches). Some (edit e rs)) z
-edited-there (l ∷ ls) (suc k) e ps q = edited-there ls k e ps q
-
-edited-elsewhere : (ls : List Layer) (k j : ℕ) (e : Edit) → (j ≡ k → ⊥) → patches-at (edit-at ls k e) j ≡ patches-at ls j
-edited-elsewhere [] k j e n = refl
-edited-elsewhere (l ∷ ls) zero zero e n = absurd (n refl)
-edited-elsewhere (l ∷ ls) zero (suc j) e n = refl
-edited-elsewhere (l ∷ ls) (suc k) zero e n = refl
-edited-elsewhere (l ∷ ls) (suc k) (suc j) e n = edited-elsewhere ls k j e (λ q. n (ap suc q))
-
-lawful-there : (ls : List Layer) (k : ℕ) (ps : Patches) → LawfulLayers ls → patches-at ls k ≡ Some ps → LawfulPatches ps
-lawful-there [] k ps h q = let z : _≡_ {A = ℕ} 0 1 = cc in absurd (omega arith)
-lawful-there (plain r ∷ ls) zero ps h q = let z : _≡_ {A = ℕ} 0 1 = cc in absurd (omega arith)
-lawful-there (overlay qs ∷ ls) zero ps h q = let z : qs ≡ ps = cc in subst LawfulPatches z (h .0)
-lawful-there (l ∷ ls) (suc k) ps h q = lawful-there ls k ps (h .1) q
-
-pub pile-edit-laws : Every-edit-changes-its-addresses-alone
-pile-edit-laws p k e = record {
-  overlay = λ ps q. let o = ap (λ (o : Option Patches). judged o e) q in (
-    unless (refusal (p .pile) k e) ps (edit e ps),
-    there ps q (refusal (p .pile) k e),
-    subst (λ (o : Option Refusal). EditLaws e ps (unless o ps (edit e ps)) (outcome o)) (sym o) (edit-laws e ps (lawful-there ls k ps (p .lawful .layers) q)),
-  );
-  none = λ q. let o = ap (λ (o : Option Patches). judged o e) q in record {
-    same = ap (λ (ks : List Layer). record { layers = ks; base = p .pile .base }) (stays q (refusal (p .pile) k e) o);
-    past = λ h. ap outcome (o ∙ past e None h);
-    refused = λ h. ap outcome (o ∙ within e None h);
-  };
-  elsewhere = λ j n. unless-both (refusal (p .pile) k e) ls (edit-at ls k e) (λ ks. patches-at ks j ≡ patches-at ls j) refl (λ _. edited-elsewhere ls k j e n);
-}
-  where
-    ls : List Layer
-    ls = p .pile .layers
-
-    there : (ps : Patches) → patches-at ls k ≡ Some ps → (o : Option Refusal) → patches-at (unless o ls (edit-at ls k e)) k ≡ Some (unless o ps (edit e ps))
-    there ps q None = edited-there ls k e ps q
-    there ps q (Some n) = q
-
-    stays : patches-at ls k ≡ None → (o : Option Refusal) → o ≡ judged None e → unless o ls (edit-at ls k e) ≡ ls
-    stays q None r = let b = refused-none (ltb (2 ^ 64) (first-of e + count-of e)) r in absurd b
-      where
-        refused-none : (b : Bool) → None ≡ cond b (Some PastTheEnd) (Some NoOverlay) → ⊥
-        refused-none true r = let z : _≡_ {A = ℕ} 0 1 = cc in omega arith
-        refused-none false r = let z : _≡_ {A = ℕ} 0 1 = cc in omega arith
-    stays q (Some n) r = refl

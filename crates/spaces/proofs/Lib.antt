@@ -3,6 +3,8 @@ pub mod Ascents
 pub mod Finding
 pub mod Places
 pub mod Editing
+pub mod PileEdits
 pub mod Arising
 pub mod Resting
+pub mod OffTrail
 pub mod Carrying

@@ -7,12 +7,13 @@ use native.Mathlib.Omega.{arith}
 use lib.Dec.{eqb}
 use lib.ListN.{length, getD}
 use Rattle.std.specs.Options.{isSome}
-use Rattle.std.specs.declared.option.Option.the-variants.{Some}
+use Rattle.std.specs.declared.option.Option.{Option}
+use Rattle.std.specs.declared.option.Option.the-variants.{Some, None}
 use Rattle.std.proofs.shelf.Tests.{eq-eqb, ne-eqb, eqb-true, cases-lt}
 use Rattle.spaces.specs.declared.patch.Patch.{Patch}
 use Rattle.spaces.specs.Patches.{Patches, Ascending, lookup}
 use Rattle.spaces.specs.Edits.{Edit, setting, clearing, first-of, count-of}
-use Rattle.spaces.specs.EditLaws.{Patching, Patched, Inside, Outside, Changes, Would, Exactly}
+use Rattle.spaces.specs.EditLaws.{Patching, Patched, Inside, Outside, Changes, Touches, Would, Exactly}
 use Rattle.spaces.proofs.Ascents.{linked}
 
 -- ascending patches by place
@@ -94,6 +95,20 @@ would-be (clearing first count) old new s a h (inl t) =
     let y : _≡_ {A = ℕ} 0 1 = cc in
     absurd (omega arith)
 would-be (clearing first count) old new s a h (inr o) = (o, ap isSome (sym (s .outside a o)) ∙ h)
+
+-- an address that is not touched has what it had
+pub untouched : (e : Edit) (old new : Patching) → Changes e old new → (a : ℕ) → (Touches e old a → ⊥) → old a ≡ new a
+untouched e old new s a h = step e s h (where-is e a)
+  where
+    not-patched : (o : Option ℕ) → (isSome o ≡ true → ⊥) → o ≡ None
+    not-patched None n = refl
+    not-patched (Some b) n = absurd (n refl)
+
+    step : (e : Edit) → Changes e old new → (Touches e old a → ⊥) → Inside e a ⊎ Outside e a → old a ≡ new a
+    step e s h (inr o) = sym (s .outside a o)
+    step (setting first bytes) s h (inl i) = absurd (h i)
+    step (clearing first count) s h (inl i) =
+        not-patched (old a) (λ p. h (i, p)) ∙ sym (ap new (omega arith) ∙ s .inside (a - first) (omega arith))
 
 pub exactly-edited : (e : Edit) (old new : Patches) → Ascending 0 new → Changes e (lookup old) (lookup new) → Exactly (length new) (Would e (lookup old))
 exactly-edited e old new asc s = let t = exactly-listed new asc in record {

@@ -1,26 +1,21 @@
-use mathlib.Core.Path.{_≡_, refl, sym, ap, ap₂, _∙_, subst}
+use mathlib.Core.Path.{_≡_, refl, ap, ap₂, _∙_, subst}
 use mathlib.Core.List.{List, [], _∷_, _++_, map, List·Memᴰ, List·Memᴰ·head, List·Memᴰ·tail, List·Memᴰ·not-nil, List·Memᴰ·cases-cons, Memᴰ·append-left, Memᴰ·append-right}
 use mathlib.Core.Logic.{_⊎_, inl, inr}
 use Prim.Native.Nat.{ℕ, zero, suc}
 use native.Mathlib.Omega.{arith}
 use Rattle.std.specs.shelf.Lists.{joined}
-use Rattle.std.proofs.shelf.Tests.{cases-eq}
 use Rattle.std.specs.declared.option.Option.{Option}
-use Rattle.std.specs.declared.option.Option.the-variants.{Some, None}
 use Rattle.std.specs.declared.result.Result.the-variants.{Ok, Err}
-use Rattle.spaces.specs.declared.refusal.Refusal.{Refusal}
 use Rattle.spaces.specs.Maps.{Answer, Map}
 use Rattle.spaces.specs.Reads.{got, then-got, then-through, through}
 use Rattle.spaces.specs.Rules.{Rule, Agree}
 use Rattle.spaces.specs.Walks.{walked}
-use Rattle.spaces.specs.Patches.{Patches, lookup}
 use Rattle.spaces.specs.Piles.{Layer, plain, overlay, patched, rule, Pile, composed, shown, LawfulLayer, LawfulLayers}
-use Rattle.spaces.specs.Trails.{trail-of, trail}
-use Rattle.spaces.specs.Edits.{Edit, patches-of, patches-at, patch-in, patch-at, edit-at, edited, refusal, unless, Outcome, outcome}
-use Rattle.spaces.specs.EditLaws.{Outside, EditLaws, PileEditLaws}
-use Rattle.spaces.specs.PileLaws.{bare-layer, ReadsAlike, Every-read-rests-on-its-trail, Every-edit-off-the-trail-keeps-the-read}
+use Rattle.spaces.specs.Trails.{trail-of}
+use Rattle.spaces.specs.Edits.{patches-of, patches-at, patch-in}
+use Rattle.spaces.specs.EditLaws.{bare-layer}
+use Rattle.spaces.specs.PileLaws.{ReadsAlike, Every-read-rests-on-its-trail}
 use Rattle.spaces.proofs.Arising.{layer-lawful}
-use Rattle.spaces.proofs.Editing.{pile-edit-laws}
 
 -- a trail is among the joined ones
 joined-in : (f : ℕ → List ℕ) (xs : List ℕ) (a x : ℕ) → List·Memᴰ a xs → List·Memᴰ x (f a) → List·Memᴰ x (joined f xs)
@@ -110,36 +105,3 @@ rests-on-trail p q xs d = subst (λ (b : Map). ReadsAlike (p .pile) (record { la
 
     t : (got (shown (p .pile)) xs ≡ got (composed ks m) xs) × (through (shown (p .pile)) xs ≡ through (composed ks m) xs)
     t = read-same (shown (p .pile)) (composed ks m) xs (s .agree)
-
--- an edit off the trail
-
-bare-edited : (ls : List Layer) (k : ℕ) (e : Edit) → map bare-layer ls ≡ map bare-layer (edit-at ls k e)
-bare-edited [] k e = refl
-bare-edited (plain r ∷ ls) zero e = refl
-bare-edited (overlay ps ∷ ls) zero e = refl
-bare-edited (l ∷ ls) (suc k) e = ap (λ (ks : List Layer). bare-layer l ∷ ks) (bare-edited ls k e)
-
-bare-unless : (o : Option Refusal) (ls : List Layer) (k : ℕ) (e : Edit) → map bare-layer ls ≡ map bare-layer (unless o ls (edit-at ls k e))
-bare-unless None ls k e = bare-edited ls k e
-bare-unless (Some n) ls k e = refl
-
-pub kept-off-trail : Every-edit-off-the-trail-keeps-the-read
-kept-off-trail p k e xs h = rests-on-trail p (edited (p .pile) k e) xs (record {
-  layers = ap (λ (ls : List Layer). record { layers = ls; base = p .pile .base }) (bare-unless (refusal (p .pile) k e) (p .pile .layers) k e);
-  patches = λ j a t. step j a t (cases-eq j k);
-})
-  where
-    laws : PileEditLaws k e (p .pile) (edited (p .pile) k e) (outcome (refusal (p .pile) k e))
-    laws = pile-edit-laws p k e
-
-    here : (a : ℕ) → Outside e a → (o : Option Patches) → patches-at (p .pile .layers) k ≡ o → patch-at (p .pile) k a ≡ patch-at (edited (p .pile) k e) k a
-    here a off None q = ap (λ (o : Pile). patch-at o k a) (sym (laws .none q .same))
-    here a off (Some ps) q = let t = laws .overlay ps q in ap (λ (o : Option Patches). patch-in o a) q ∙ settles (outcome (refusal (p .pile) k e)) refl (t .0) (t .2) ∙ ap (λ (o : Option Patches). patch-in o a) (sym (t .1))
-      where
-        settles : (r : Outcome) → outcome (refusal (p .pile) k e) ≡ r → (qs : Patches) → EditLaws e ps qs (outcome (refusal (p .pile) k e)) → lookup ps a ≡ lookup qs a
-        settles (Ok x) q qs l = sym (l .accepted q .outside a off)
-        settles (Err n) q qs l = ap (λ (rs : Patches). lookup rs a) (sym (l .refused n q))
-
-    step : (j a : ℕ) → List·Memᴰ a (trail (p .pile) xs j) → (j ≡ k) ⊎ (j ≡ k → ⊥) → patch-at (p .pile) j a ≡ patch-at (edited (p .pile) k e) j a
-    step j a t (inl q) = subst (λ (i : ℕ). patch-at (p .pile) i a ≡ patch-at (edited (p .pile) k e) i a) (sym q) (here a (h a (subst (λ (i : ℕ). List·Memᴰ a (trail (p .pile) xs i)) q t)) (patches-at (p .pile .layers) k) refl)
-    step j a t (inr n) = ap (λ (o : Option Patches). patch-in o a) (sym (laws .elsewhere j n))

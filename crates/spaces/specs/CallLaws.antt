@@ -7,7 +7,6 @@ use Rattle.spaces.specs.declared.fault.Fault.{Fault}
 use Rattle.spaces.specs.declared.watch.Watched.{Watched}
 use Rattle.spaces.specs.Maps.{Answer}
 use Rattle.spaces.specs.Piles.{Pile, shown}
-use Rattle.spaces.specs.Trails.{trail}
 use Rattle.spaces.specs.Edits.{Edit, Edits}
 use Rattle.spaces.specs.EditLaws.{PileEditLaws}
 use Rattle.spaces.specs.PileLaws.{Arose, Misses}
@@ -25,4 +24,4 @@ pub record Watches (old new : Pile) (depth : ℕ) (e : Edit) (at : ℕ) (w : Wat
   pub laws : PileEditLaws depth e old new (w .outcome)
   pub before : w .before ≡ shown old at
   pub after : w .after ≡ shown new at
-  pub kept : Misses e (trail old (at ∷ []) depth) → w .after ≡ w .before
+  pub kept : Misses old (at ∷ []) depth e → w .after ≡ w .before

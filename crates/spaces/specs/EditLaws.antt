@@ -1,5 +1,6 @@
 use mathlib.Core.Path.{_≡_}
 use mathlib.Core.Bool.{true}
+use mathlib.Core.List.{[], map}
 use mathlib.Core.Logic.{_⊎_}
 use Prim.Native.Nat.{ℕ, _+_, _<_, _≤_, _^_}
 use lib.ListN.{length, getD}
@@ -10,7 +11,7 @@ use Rattle.std.specs.declared.result.Result.the-variants.{Ok, Err}
 use Rattle.spaces.specs.declared.refusal.Refusal.{Refusal}
 use Rattle.spaces.specs.declared.refusal.Refusal.the-variants.{PastTheEnd, NoOverlay, TooManyPatches}
 use Rattle.spaces.specs.Patches.{Patches, lookup}
-use Rattle.spaces.specs.Piles.{Pile, LawfulPile}
+use Rattle.spaces.specs.Piles.{Layer, plain, overlay, Pile, Lawful, LawfulPile}
 use Rattle.spaces.specs.Edits.{Edit, setting, clearing, first-of, count-of, patches-at, refusal, edited, Outcome, outcome}
 
 -- What sets and clears do, in plain words. The definitions in Edits are proved to keep these laws.
@@ -38,6 +39,11 @@ leaves (clearing first count) i = None
 pub record Changes (e : Edit) (old new : Patching) : Type 0 where
   pub inside : (i : ℕ) → i < count-of e → new (first-of e + i) ≡ leaves e i
   pub outside : (a : ℕ) → Outside e a → new a ≡ old a
+
+-- the addresses whose patch an edit sets or takes back
+abbrev pub Touches : Edit → Patching → ℕ → Type 0
+Touches (setting first bytes) old a = Inside (setting first bytes) a
+Touches (clearing first count) old a = Inside (clearing first count) a × Patched old a
 
 -- the addresses that would be patched after an edit
 abbrev pub Would : Edit → Patching → ℕ → Type 0
@@ -67,7 +73,7 @@ pub record EditLaws (e : Edit) (old new : Patches) (r : Outcome) : Type 0 where
   pub weighed : first-of e + count-of e ≤ 2 ^ 64 → Weighed e (lookup old) r
   pub few : length new ≤ 256
 
--- taking patches back never makes too many
+-- a clear is refused for nothing but its end: taking patches back never makes too many
 abbrev pub ClearLaw : ℕ → ℕ → Outcome → Type 0
 ClearLaw first count r = first + count ≤ 2 ^ 64 → r ≡ Ok tt
 
@@ -77,11 +83,21 @@ pub record NoneThere (e : Edit) (old new : Pile) (r : Outcome) : Type 0 where
   pub past : 2 ^ 64 < first-of e + count-of e → r ≡ Err PastTheEnd
   pub refused : first-of e + count-of e ≤ 2 ^ 64 → r ≡ Err NoOverlay
 
--- an edit of a pile at a depth: the overlay there is edited, and nothing else changes
+-- a pile without its patches
+abbrev pub bare-layer : Layer → Layer
+bare-layer (plain r) = plain r
+bare-layer (overlay ps) = overlay []
+
+abbrev pub bare : Pile → Pile
+bare p = record { layers = map bare-layer (p .layers); base = p .base }
+
+-- an edit of a pile at a depth: the overlay there is edited, nothing else changes, and the pile keeps its laws
 pub record PileEditLaws (k : ℕ) (e : Edit) (old new : Pile) (r : Outcome) : Type 0 where
   pub overlay : (ps : Patches) → patches-at (old .layers) k ≡ Some ps → (qs : Patches) × (patches-at (new .layers) k ≡ Some qs) × EditLaws e ps qs r
   pub none : patches-at (old .layers) k ≡ None → NoneThere e old new r
   pub elsewhere : (j : ℕ) → (j ≡ k → ⊥) → patches-at (new .layers) j ≡ patches-at (old .layers) j
+  pub rest : bare new ≡ bare old
+  pub lawful : Lawful new
 
 abbrev pub Every-edit-changes-its-addresses-alone : Type 0
 Every-edit-changes-its-addresses-alone = (p : LawfulPile) (k : ℕ) (e : Edit) → PileEditLaws k e (p .pile) (edited (p .pile) k e) (outcome (refusal (p .pile) k e))

@@ -1,5 +1,5 @@
 use mathlib.Core.Path.{_≡_}
-use mathlib.Core.List.{List, [], _∷_, List·Memᴰ, map}
+use mathlib.Core.List.{List, [], _∷_, List·Memᴰ}
 use Prim.Native.Nat.{ℕ, _≤_}
 use lib.ListN.{length}
 use Rattle.std.specs.declared.option.Option.the-variants.{Some, None}
@@ -8,10 +8,10 @@ use Rattle.spaces.specs.declared.fault.Fault.{Fault}
 use Rattle.spaces.specs.Maps.{Map, own, raised}
 use Rattle.spaces.specs.Reads.{got}
 use Rattle.spaces.specs.Patches.{Patches, lookup}
-use Rattle.spaces.specs.Piles.{Layer, plain, overlay, rule, Pile, shown, from-depth, LawfulPile}
+use Rattle.spaces.specs.Piles.{overlay, rule, Pile, shown, from-depth, LawfulPile}
 use Rattle.spaces.specs.Trails.{trail}
 use Rattle.spaces.specs.Edits.{Edit, patch-at, edited}
-use Rattle.spaces.specs.EditLaws.{Outside}
+use Rattle.spaces.specs.EditLaws.{Touches, bare}
 
 -- What holds of every pile, whoever wrote its bottom and its layers.
 
@@ -31,14 +31,6 @@ pub record Arose (p : Pile) (f : Fault) : Type 0 where
 abbrev pub Every-fault-arose-where-it-says : Type 0
 Every-fault-arose-where-it-says = (p : LawfulPile) → length (p .pile .layers) ≤ 255 → (a : ℕ) (f : Fault) → shown (p .pile) a ≡ Err f → Arose (p .pile) f
 
--- a pile without its patches
-abbrev pub bare-layer : Layer → Layer
-bare-layer (plain r) = plain r
-bare-layer (overlay ps) = overlay []
-
-abbrev pub bare : Pile → Pile
-bare p = record { layers = map bare-layer (p .layers); base = p .base }
-
 -- two piles differ in patches alone, and in none at an address of some trail
 pub record DifferOff (trail : ℕ → List ℕ) (p q : Pile) : Type 0 where
   pub layers : bare p ≡ bare q
@@ -52,9 +44,9 @@ pub record ReadsAlike (p q : Pile) (xs : List ℕ) : Type 0 where
 abbrev pub Every-read-rests-on-its-trail : Type 0
 Every-read-rests-on-its-trail = (p : LawfulPile) (q : Pile) (xs : List ℕ) → DifferOff (trail (p .pile) xs) (p .pile) q → ReadsAlike (p .pile) q xs
 
--- an edit has no address in a list
-abbrev pub Misses : Edit → List ℕ → Type 0
-Misses e t = (a : ℕ) → List·Memᴰ a t → Outside e a
+-- an edit at a depth sets and takes back no patch at an address of a read's trail there
+abbrev pub Misses : Pile → List ℕ → ℕ → Edit → Type 0
+Misses p xs k e = (a : ℕ) → List·Memᴰ a (trail p xs k) → Touches e (patch-at p k) a → ⊥
 
 abbrev pub Every-edit-off-the-trail-keeps-the-read : Type 0
-Every-edit-off-the-trail-keeps-the-read = (p : LawfulPile) (k : ℕ) (e : Edit) (xs : List ℕ) → Misses e (trail (p .pile) xs k) → ReadsAlike (p .pile) (edited (p .pile) k e) xs
+Every-edit-off-the-trail-keeps-the-read = (p : LawfulPile) (k : ℕ) (e : Edit) (xs : List ℕ) → Misses (p .pile) xs k e → ReadsAlike (p .pile) (edited (p .pile) k e) xs

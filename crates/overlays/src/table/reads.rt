@@ -1,5 +1,6 @@
 ghost use mathlib.Core.Path.{_≡_};
 ghost use mathlib.Core.List.{[]};
+ghost use Prim.Native.Nat.{_≤_};
 ghost use lib.ListN.{length};
 ghost use Rattle.spaces.specs.Patches.{lookup, before};
 ghost use Rattle.overlays.specs.Tables.{held};
@@ -20,9 +21,10 @@ impl PatchTable {
         }
     }
 
-    // How many addresses are patched.
+    // How many addresses are patched, 256 at the most.
     pub fn len(&self) -> usize
-        ensures { λ r. ⌜ r ≡ length (held (now (self .entry))) ⌝ }
+        ensures count { λ r. ⌜ r ≡ length (held (now (self .entry))) ⌝ }
+        ensures few { λ r. ⌜ r ≤ 256 ⌝ }
     {
         self.count
     }

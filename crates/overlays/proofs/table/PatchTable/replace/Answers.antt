@@ -19,7 +19,7 @@ returns-then-bytes-kept c =
 pub splice-self-requires : need.splice-self-requires
 splice-self-requires c κs =
     let n = held-length (c .args .self .now) in
-    record { order = (c .around-low .ensures .order, (omega arith, omega arith)); room = omega arith; ends = omega arith }
+    record { order = (omega arith, (omega arith, omega arith)); room = omega arith; ends = omega arith }
 
 pub ghost-self : need.ghost-self
 ghost-self c =
