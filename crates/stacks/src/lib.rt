@@ -8,3 +8,5 @@ mod foreign;
 mod limits;
 #[cfg(test)]
 mod stacked;
+#[cfg(test)]
+mod windows;
