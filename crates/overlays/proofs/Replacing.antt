@@ -1,18 +1,21 @@
 use mathlib.Core.Path.{_≡_, refl, sym, ap, ap₂, _∙_}
 use mathlib.Core.List.{List, [], _∷_, _++_}
 use mathlib.Core.Logic.{_⊎_, inl, inr}
-use Prim.Native.Nat.{ℕ, suc, _+_, _-_, _<_, _≤_}
+use Prim.Native.Nat.{ℕ, suc, _+_, _-_, _<_, _≤_, _^_}
 use native.Mathlib.Omega.{arith}
 use lib.Dec.{ltb}
 use lib.ListN.{length, take, drop}
 use Rattle.std.proofs.shelf.Lists.{length-append, length-take-le, length-drop}
 use Rattle.std.proofs.shelf.Tests.{cases-lt, lt-ltb, le-ltb, lt-leb, ltb-true, cond-both}
+use Rattle.std.specs.declared.option.Option.{Option}
 use Rattle.std.specs.declared.option.Option.the-variants.{Some, None}
+use Rattle.std.specs.declared.result.Result.the-variants.{Ok, Err}
+use Rattle.spaces.specs.declared.refusal.Refusal.{Refusal}
 use Rattle.spaces.specs.declared.refusal.Refusal.the-variants.{TooManyPatches}
 use Rattle.spaces.specs.Patches.{Patches, Ascending, before, from, laid, replaced}
-use Rattle.spaces.specs.Edits.{crowded}
+use Rattle.spaces.specs.Edits.{crowded, ending, unless, outcome}
 use Rattle.spaces.proofs.Ascents.{link, linked, none-before}
-use Rattle.overlays.specs.Tables.{Around}
+use Rattle.overlays.specs.Tables.{Around, Replaces}
 
 -- ascending patches are those before an address, and then those from it on
 parted : (n a : ℕ) (ps : Patches) → Ascending n ps → (take (length (before a ps)) ps ≡ before a ps) × (drop (length (before a ps)) ps ≡ from a ps)
@@ -58,8 +61,12 @@ module _ (ps : Patches) (first end low high : ℕ) (bytes : List ℕ) (asc : Asc
       ap length (sym (replaced-by _ refl))
       ∙ simp (length-append, length-drop) (omega (arith, length-laid first bytes, length-take-le low ps (omega (arith, s .order, s .within))))
 
-  pub crowded-if : 256 < low + length bytes + (length ps - high) → crowded (replaced first end bytes ps) ≡ Some TooManyPatches
-  crowded-if k = rw (lt-ltb 256 (length (replaced first end bytes ps)) (omega (arith, replaced-length)))
+  answered : (o : Option Refusal) (new : Patches) → ending end (crowded (replaced first end bytes ps)) ≡ o → new ≡ unless o ps (replaced first end bytes ps) → Replaces ps new first end bytes (outcome o)
+  answered o new q e = record { answer = ap outcome (sym q); patches = e ∙ ap (λ (o : Option Refusal). unless o ps (replaced first end bytes ps)) (sym q) }
 
-  pub room-if : low + length bytes + (length ps - high) ≤ 256 → crowded (replaced first end bytes ps) ≡ None
-  room-if k = rw (le-ltb 256 (length (replaced first end bytes ps)) (omega (arith, replaced-length)))
+  -- the end is not passed, and the patches afterwards decide
+  pub refuses : end ≤ 2 ^ 64 → 256 < low + length bytes + (length ps - high) → Replaces ps ps first end bytes (Err TooManyPatches)
+  refuses h k = answered (Some TooManyPatches) ps (rw (le-ltb (2 ^ 64) end h, lt-ltb 256 (length (replaced first end bytes ps)) (omega (arith, replaced-length)))) refl
+
+  pub replaces : end ≤ 2 ^ 64 → low + length bytes + (length ps - high) ≤ 256 → (new : Patches) → new ≡ take low ps ++ (laid first bytes ++ drop high ps) → Replaces ps new first end bytes (Ok tt)
+  replaces h k new e = answered None new (rw (le-ltb (2 ^ 64) end h, le-ltb 256 (length (replaced first end bytes ps)) (omega (arith, replaced-length)))) (replaced-by new e)

@@ -5,7 +5,7 @@ use native.Mathlib.Omega.{arith}
 use lib.ListN.{length, take}
 use Rattle.std.proofs.shelf.Lists.{length-take-le}
 use Rattle.spaces.specs.Patches.{Patches, before, replaced, LawfulPatches}
-use Rattle.spaces.specs.Edits.{crowded, unless, Outcome, outcome}
+use Rattle.spaces.specs.Edits.{crowded, ending, unless, Outcome, outcome}
 use Rattle.overlays.specs.declared.table.PatchTable.{PatchTable}
 
 -- the patches of a table
@@ -26,7 +26,7 @@ pub record Around (ps : Patches) (first end low high : ℕ) : Type 0 where
   pub order : low ≤ high
   pub within : high ≤ length ps
 
--- what it answers and leaves to put bytes from first on in the place of all patches from there to before end
+-- what a replacement answers and leaves: bytes from first on in the place of all patches from there to before end
 pub record Replaces (old new : Patches) (first end : ℕ) (bytes : List ℕ) (r : Outcome) : Type 0 where
-  pub answer : r ≡ outcome (crowded (replaced first end bytes old))
-  pub patches : new ≡ unless (crowded (replaced first end bytes old)) old (replaced first end bytes old)
+  pub answer : r ≡ outcome (ending end (crowded (replaced first end bytes old)))
+  pub patches : new ≡ unless (ending end (crowded (replaced first end bytes old))) old (replaced first end bytes old)

@@ -1,34 +1,16 @@
-use mathlib.Core.Path.{_≡_, refl, sym, ap, _∙_, subst}
+use mathlib.Core.Path.{_≡_, sym, _∙_, subst}
 use mathlib.Core.List.{List, [], _∷_}
 use mathlib.Core.Logic.{_⊎_, inl, inr}
 use Prim.Native.Nat.{ℕ, suc, _+_, _<_, _≤_, min}
 use native.Mathlib.Omega.{arith}
 use lib.ListN.{length}
-use Rattle.std.specs.declared.option.Option.{Option}
-use Rattle.std.specs.declared.result.Result.the-variants.{Ok, Err}
+use Rattle.std.specs.declared.result.Result.the-variants.{Err}
 use Rattle.spaces.specs.declared.fault.Fault.{Fault}
-use Rattle.spaces.specs.Maps.{Answer, Map, climbed, raised}
-use Rattle.spaces.specs.Rules.{Own, Climbs, LawfulRule, LawfulBase}
-use Rattle.spaces.specs.Patches.{lookup}
-use Rattle.spaces.specs.Piles.{Layer, plain, overlay, patched, rule, composed, LawfulLayer, LawfulLayers}
-use Rattle.spaces.specs.Lawful.{walk-lawful}
-use Rattle.spaces.specs.Walks.{give, ask, walked}
-use Rattle.spaces.specs.PileLaws.{Every-overlay-shows-its-patches, Arose, Every-fault-arose-where-it-says}
-
--- overlays keep the laws, since they are walks
-pub layer-lawful : (l : Layer) → LawfulLayer l → LawfulRule (rule l)
-layer-lawful (plain r) h = h
-layer-lawful (overlay ps) h = walk-lawful (λ a. patched (lookup ps a) a)
-
-pub shows-patches : Every-overlay-shows-its-patches
-shows-patches ps = record {
-  patched = λ m a b e. ap (λ (o : Option ℕ). walked a (patched o a) m) e;
-  other = λ m a e. ap (λ (o : Option ℕ). walked a (patched o a) m) e ∙ below (m a) a;
-}
-  where
-    below : (w : Answer) (a : ℕ) → walked a (ask a give) (λ _. w) ≡ (raised w, a ∷ [])
-    below (Ok b) a = refl
-    below (Err f) a = refl
+use Rattle.spaces.specs.Maps.{Map, climbed}
+use Rattle.spaces.specs.Rules.{Own, Climbs, LawfulBase}
+use Rattle.spaces.specs.Piles.{Layer, rule, composed, LawfulLayers}
+use Rattle.spaces.proofs.Overlaid.{layer-lawful}
+use Rattle.spaces.specs.PileLaws.{Arose, Every-fault-arose-where-it-says}
 
 module _ (m : Map) where
   abbrev AroseIn : List Layer → Fault → Type 0
@@ -49,4 +31,4 @@ module _ (m : Map) where
       step ih (inr c) = subst (λ (k : Fault). AroseIn (l ∷ ls) k) (sym (c .4)) (arose-below l ls (c .1) (omega arith) (ih (c .0) (c .1) (c .3)))
 
 pub arose : Every-fault-arose-where-it-says
-arose p n a f e = arose-in (p .pile .base) (p .pile .layers) (p .lawful .layers) (p .lawful .base) n a f e
+arose p n a f e = arose-in (p .pile .base) (p .pile .layers) (p .lawful .layers) (p .lawful .base) (omega arith) a f e

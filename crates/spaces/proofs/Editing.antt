@@ -13,7 +13,7 @@ use Rattle.std.proofs.shelf.Tests.{ltb-true, ltb-false, lt-ltb, le-ltb, lt-leb,
 use Rattle.spaces.specs.declared.refusal.Refusal.{Refusal}
 use Rattle.spaces.specs.declared.refusal.Refusal.the-variants.{PastTheEnd, TooManyPatches}
 use Rattle.spaces.specs.Patches.{Patches, Ascending, lookup, before, from, replaced, LawfulPatches}
-use Rattle.spaces.specs.Edits.{Edit, setting, clearing, first-of, count-of, edit, crowded, crowding, judged, unless, Outcome, outcome, EditsPatches}
+use Rattle.spaces.specs.Edits.{Edit, setting, clearing, first-of, count-of, edit, crowding, judged, unless, Outcome, outcome, EditsPatches}
 use Rattle.spaces.specs.EditLaws.{Changes, EditLaws, ClearLaw}
 use Rattle.spaces.proofs.Ascents.{ascending-replaced, replaced-none}
 use Rattle.spaces.proofs.Finding.{changes}
@@ -81,10 +81,6 @@ edit-laws e old law = record {
   };
   few = unless-both (judged (Some old) e) old (edit e old) (λ ps. length ps ≤ 256) (law .few) (few-if e old);
 }
-
--- what an edit that ends by 2 ^ 64 answers and leaves
-pub edits-within : (e : Edit) (old new : Patches) (r : Outcome) → first-of e + count-of e ≤ 2 ^ 64 → r ≡ outcome (crowded (edit e old)) → new ≡ unless (crowded (edit e old)) old (edit e old) → EditsPatches old new e r
-edits-within e old new r h a n = let j = sym (within e (Some old) h) in record { answer = a ∙ ap outcome j; patches = n ∙ ap (λ (o : Option Refusal). unless o old (edit e old)) j }
 
 pub laws-of : (e : Edit) (old new : Patches) (r : Outcome) → LawfulPatches old → EditsPatches old new e r → EditLaws e old new r
 laws-of e old new r law d = subst (EditLaws e old new) (sym (d .answer)) (subst (λ (ps : Patches). EditLaws e old ps (outcome (judged (Some old) e))) (sym (d .patches)) (edit-laws e old law))

@@ -4,6 +4,7 @@ pub mod Finding
 pub mod Places
 pub mod Editing
 pub mod PileEdits
+pub mod Overlaid
 pub mod Arising
 pub mod Resting
 pub mod OffTrail

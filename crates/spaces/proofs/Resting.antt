@@ -15,7 +15,7 @@ use Rattle.spaces.specs.Trails.{trail-of}
 use Rattle.spaces.specs.Edits.{patches-of, patches-at, patch-in}
 use Rattle.spaces.specs.EditLaws.{bare-layer}
 use Rattle.spaces.specs.PileLaws.{ReadsAlike, Every-read-rests-on-its-trail}
-use Rattle.spaces.proofs.Arising.{layer-lawful}
+use Rattle.spaces.proofs.Overlaid.{layer-lawful}
 
 -- a trail is among the joined ones
 joined-in : (f : ℕ → List ℕ) (xs : List ℕ) (a x : ℕ) → List·Memᴰ a xs → List·Memᴰ x (f a) → List·Memᴰ x (joined f xs)

@@ -56,8 +56,11 @@ abbrev pub crowding : Option Patches → Edit → Option Refusal
 crowding None e = Some NoOverlay
 crowding (Some ps) e = crowded (edit e ps)
 
+abbrev pub ending : ℕ → Option Refusal → Option Refusal
+ending end o = cond (ltb (2 ^ 64) end) (Some PastTheEnd) o
+
 abbrev pub judged : Option Patches → Edit → Option Refusal
-judged o e = cond (ltb (2 ^ 64) (first-of e + count-of e)) (Some PastTheEnd) (crowding o e)
+judged o e = ending (first-of e + count-of e) (crowding o e)
 
 abbrev pub refusal : Pile → ℕ → Edit → Option Refusal
 refusal p k e = judged (patches-at (p .layers) k) e

@@ -29,7 +29,7 @@ pub fn every_read_rests_on_its_trail()
     ensures { λ _. ⌜ Every-read-rests-on-its-trail ⌝ }
 {}
 
-// A set or clear that has no address on a read's trail at its depth leaves the read as it was.
+// A set or clear that sets and takes back no patch on a read's trail at its depth leaves the read as it was.
 pub fn every_edit_off_the_trail_keeps_the_read()
     ensures { λ _. ⌜ Every-edit-off-the-trail-keeps-the-read ⌝ }
 {}

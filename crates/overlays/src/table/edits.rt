@@ -1,4 +1,4 @@
-ghost use Prim.Native.Nat.{_+_, _≤_, _^_};
+ghost use Prim.Native.Nat.{_+_, _≤_};
 ghost use lib.ListN.{length};
 ghost use Rattle.spaces.specs.Edits.{EditsPatches, setting, clearing};
 ghost use Rattle.spaces.specs.EditLaws.{EditLaws, ClearLaw};
@@ -7,19 +7,13 @@ use crate::table::PatchTable;
 use crate::table::places::splice;
 use spaces::Refusal;
 
-const END: u128 = 1 << 64;
-
 impl PatchTable {
     // Patches consecutive addresses, unless more than 256 would be patched.
     pub fn set(&mut self, first: u64, bytes: &[u8]) -> Result<(), Refusal>
         ensures edits { λ r. ⌜ EditsPatches (held (now (self .entry))) (held (now (self .exit))) (setting first (now (bytes .entry))) r ⌝ }
         ensures laws { λ r. ⌜ EditLaws (setting first (now (bytes .entry))) (held (now (self .entry))) (held (now (self .exit))) r ⌝ }
     {
-        let end = first as u128 + bytes.len() as u128;
-        if end > END {
-            return Err(Refusal::PastTheEnd);
-        }
-        self.replace(first, end, bytes)
+        self.replace(first, first as u128 + bytes.len() as u128, bytes)
     }
 
     // Takes back the patches among some addresses.
@@ -28,11 +22,7 @@ impl PatchTable {
         ensures laws { λ r. ⌜ EditLaws (clearing first count) (held (now (self .entry))) (held (now (self .exit))) r ⌝ }
         ensures fits { λ r. ⌜ ClearLaw first count r ⌝ }
     {
-        let end = first as u128 + count as u128;
-        if end > END {
-            return Err(Refusal::PastTheEnd);
-        }
-        self.replace(first, end, &[])
+        self.replace(first, first as u128 + count as u128, &[])
     }
 
     // The places at which the patches from first to before end begin and end.
@@ -45,10 +35,12 @@ impl PatchTable {
 
     // Puts a patch for each byte, from first on, in the place of the patches from there to before end.
     fn replace(&mut self, first: u64, end: u128, bytes: &[u8]) -> Result<(), Refusal>
-        requires within { ⌜ first + length (now bytes) ≤ end ⌝ }
-        requires ends { ⌜ end ≤ 2 ^ 64 ⌝ }
+        requires { ⌜ first + length (now bytes) ≤ end ⌝ }
         ensures { λ r. ⌜ Replaces (held (now (self .entry))) (held (now (self .exit))) first end (now (bytes .entry)) r ⌝ }
     {
+        if end > 1 << 64 {
+            return Err(Refusal::PastTheEnd);
+        }
         let (low, high) = self.around(first, end);
         let kept = low + (self.count - high);
         if bytes.len() > 256 - kept {
