@@ -1,15 +1,13 @@
-use Rattle.std.specs.Prelude.{ℕ, ◌+◌, min, Ok, Err, Result}
+use Rattle.std.specs.Prelude.{ℕ, Ok, Err, Result}
 use Rattle.spaces.specs.declared.cause.Cause.{Cause}
-use Rattle.spaces.specs.declared.cause.Cause.TheVariants.{NoExtent, NotStored, Unlawful, Absent}
+use Rattle.spaces.specs.declared.cause.Cause.TheVariants.{NoExtent, NotStored}
 use Rattle.spaces.specs.declared.refusal.Refusal.{Refusal}
 use Rattle.spaces.specs.declared.refusal.Refusal.TheVariants.{PastTheEnd, NoOverlay, TooManyPatches, HeaderCut, BadHeader, Overlap, TableFull}
 
--- the number of a cause; that of an absent entry has its level added
+-- the number of a cause
 abbrev pub cause_number : Cause → ℕ
 cause_number NoExtent = 0x01
 cause_number NotStored = 0x02
-cause_number Unlawful = 0x04
-cause_number (Absent level) = min 255 (level + 0x10)
 
 -- the number of a refusal
 abbrev pub refusal_number : Refusal → ℕ

@@ -6,8 +6,8 @@ use Rattle.spaces.proofs.space.Space.fill.Goals as goal
 pub loop-n-init : goal.loop-n-init
 loop-n-init g c = filled_none _ _ _
 
-pub returns-in-default : goal.returns-in-default
-returns-in-default g c = fills_all _ _ _ _ _ c.loop-n.invariant (omega (arith, c.in-default.ensures))
+pub returns-in_default : goal.returns-in_default
+returns-in_default g c = fills_all _ _ _ _ _ c.loop-n.invariant (omega (arith, c.in_default.ensures))
 
 pub returns-in-Err : goal.returns-in-Err
 returns-in-Err g c =
