@@ -23,8 +23,8 @@ pub trait Stored: Extent {
 
 // Whether the address lies in the extent.
 pub fn contains<E: Extent>(extent: &E, at: u64) -> bool
-    ensures answer { result ≡ contains (bounds extent.now) at }
-    ensures means { Decides result (Contains (bounds extent.now) at) }
+    ensures answer { result ≡ contains (E.Extent.bounds extent.now) at }
+    ensures means { Decides result (Contains (E.Extent.bounds extent.now) at) }
 {
     extent.first() <= at && at <= extent.last()
 }

@@ -63,8 +63,8 @@ impl<'a, E: Extent + Copy> Table<'a, E> {
 
     // The first that contains the address.
     pub fn lookup(&self, at: u64) -> Option<E>
-        ensures answer { result ≡ first_containing bounds (held self.now) at }
-        ensures means { Finds bounds (held self.now) at result }
+        ensures answer { result ≡ first_containing E.Extent.bounds (held self.now) at }
+        ensures means { Finds E.Extent.bounds (held self.now) at result }
     {
         for extent in self.held() {
             if contains(extent, at) {

@@ -1,7 +1,7 @@
 use Rattle.std.proofs.Common.{◌≡◌, ℕ, ◌+◌, ◌*◌, ◌≤◌, Bool, true, false, cond, ◌⊎◌, List, [], ◌∷◌, ◌++◌, length, Ok, Err, Result, sym, refl, ap, ◌∙◌, inl, inr, append-nil, arith, length-append}
 use Rattle.spaces.specs.declared.fault.Fault.{Fault}
-use Rattle.spaces.specs.declared.cause.Cause.TheVariants.{Unlawful}
-use Rattle.spaces.specs.Numbers.{cause_number}
+use Rattle.paging.specs.declared.cause.PagingCause.TheVariants.{Unlawful}
+use Rattle.paging.specs.Causes.{cause_number}
 use Rattle.spaces.specs.Maps.{Map, Answer, own, raised}
 use Rattle.spaces.specs.Walks.{give, fail, ask, asked, walked, found, rule_of}
 use Rattle.spaces.proofs.Sequences.{past, after_there, after_missing, found_after}

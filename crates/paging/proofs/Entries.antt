@@ -1,7 +1,7 @@
 use Rattle.std.proofs.Common.{◌≡◌, ℕ, zero, suc, ◌<◌, ◌≤◌, List, [], ◌∷◌, Some, None, Ok, Err, Option, Result, refl, ap, ◌∙◌, append-nil, arith}
-use Rattle.spaces.specs.declared.cause.Cause.TheVariants.{Absent}
+use Rattle.paging.specs.declared.cause.PagingCause.TheVariants.{Absent}
 use Rattle.spaces.specs.declared.fault.Fault.{Fault}
-use Rattle.spaces.specs.Numbers.{cause_number}
+use Rattle.paging.specs.Causes.{cause_number}
 use Rattle.spaces.specs.Maps.{Map, Answer, own, climbed}
 use Rattle.spaces.specs.Reads.{span, got, then_got, through, then_through}
 use Rattle.spaces.specs.Walks.{give, after, asked, walked}

@@ -1,7 +1,7 @@
 use Rattle.std.specs.Prelude.{ℕ, List, Some, None, Ok, Err, Option, Result}
-use Rattle.spaces.specs.declared.cause.Cause.TheVariants.{Absent}
+use Rattle.paging.specs.declared.cause.PagingCause.TheVariants.{Absent}
 use Rattle.spaces.specs.declared.fault.Fault.{Fault}
-use Rattle.spaces.specs.Numbers.{cause_number}
+use Rattle.paging.specs.Causes.{cause_number}
 use Rattle.spaces.specs.Maps.{Map, own, climbed}
 use Rattle.spaces.specs.Reads.{Got, span, got}
 use Rattle.endian.specs.Little.{little_endian}

@@ -1,3 +1,4 @@
+pub mod Causes
 pub mod Bits
 pub mod Formats
 pub mod Schemes

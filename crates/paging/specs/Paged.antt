@@ -1,6 +1,6 @@
 use Rattle.std.specs.Prelude.{ℕ, zero, suc, ◌+◌, ◌*◌, ◌%◌, cond, List, [], ◌∷◌, Some, None, Option}
-use Rattle.spaces.specs.declared.cause.Cause.TheVariants.{Unlawful, Absent}
-use Rattle.spaces.specs.Numbers.{cause_number}
+use Rattle.paging.specs.declared.cause.PagingCause.TheVariants.{Unlawful, Absent}
+use Rattle.paging.specs.Causes.{cause_number}
 use Rattle.spaces.specs.Walks.{Walk, give, fail, ask, after}
 use Rattle.endian.specs.Little.{little_endian}
 use Rattle.paging.specs.declared.entry.Page.{Page}

@@ -1,7 +1,7 @@
 use Rattle.std.specs.Prelude.{◌≡◌, ℕ, suc, true, false, List, [], ◌++◌, Some, None, Ok, Err, Option, Result}
 use Rattle.spaces.specs.declared.fault.Fault.{Fault}
-use Rattle.spaces.specs.declared.cause.Cause.TheVariants.{Unlawful, Absent}
-use Rattle.spaces.specs.Numbers.{cause_number}
+use Rattle.paging.specs.declared.cause.PagingCause.TheVariants.{Unlawful, Absent}
+use Rattle.paging.specs.Causes.{cause_number}
 use Rattle.spaces.specs.Maps.{Map, own, climbed}
 use Rattle.spaces.specs.Reads.{span, got, through}
 use Rattle.endian.specs.Little.{little_endian}

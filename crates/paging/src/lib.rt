@@ -1,6 +1,7 @@
 // x86 paging in three schemes: a layer that leads each address through tables in the space below.
 
 mod bits;
+mod cause;
 mod entry;
 mod four_level;
 mod laws;
@@ -12,6 +13,7 @@ mod translation;
 mod two_level;
 mod walk;
 
+pub use cause::PagingCause;
 pub use entry::{Entry, Page, Target};
 pub use four_level::FourLevel;
 pub use laws::{every_index_has_its_bits, every_trail_is_short, worked_examples};

@@ -7,9 +7,10 @@ ghost use Rattle.paging.specs.Formats.{Placed};
 ghost use Rattle.paging.specs.Paged.{page_of};
 ghost use Rattle.paging.specs.Entries.{as_number, entry_found};
 
+use crate::cause::PagingCause;
 use crate::entry::{Entry, Page, Target};
 use crate::scheme::Scheme;
-use spaces::{Cause, Fault, Space, climb};
+use spaces::{Fault, Space, climb};
 
 // The byte below at an address; a fault comes up one deeper.
 pub(crate) fn byte_below<S: Space>(below: &S, at: u64) -> Result<u8, Fault>
@@ -41,7 +42,7 @@ fn entry<P: Scheme, S: Space>(below: &S, table: u64, level: u8, at: u64) -> Resu
     let place = table + P::index(level, at) * width as u64;
     let raw = number(below, place, width)?;
     let Some(entry) = P::decode(level, raw) else {
-        return Err(Cause::Absent(level).at(at));
+        return Err(PagingCause::Absent(level).at(at));
     };
     Ok(entry)
 }
@@ -52,7 +53,7 @@ pub(crate) fn walk<P: Scheme, S: Space>(below: &S, cr3: u64, at: u64) -> Result<
     ensures placed { IfOk result Placed }
 {
     if !P::lawful(at) {
-        return Err(Cause::Unlawful.at(at));
+        return Err(PagingCause::Unlawful.at(at));
     }
     let mut level = P::shape().levels;
     let mut table = P::root(cr3);

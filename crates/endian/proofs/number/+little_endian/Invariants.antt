@@ -1,5 +1,5 @@
 use Rattle.std.proofs.Common.{length}
 use Rattle.endian.proofs.number.+little_endian.Given as goal
 
-abbrev pub decreases-little-endian : goal.decreases-little-endian
-decreases-little-endian l = length l.bytes.now
+abbrev pub decreases-little_endian : goal.decreases-little_endian
+decreases-little_endian l = length l.bytes.now

@@ -13,7 +13,7 @@ returns-then-not-push c =
     rw c.len-written-then-not-push.ensures (loads_to_full _ _ _ _ s _ _ c.loop-place-test.true (sym c.in-Ok.ensures) c.if-not-push.ensures)
 
 pub loop-place-preserved : goal.loop-place-preserved
-loop-place-preserved c = rw c.end-in-place.ensures (underway_more _ _ _ _ c.loop-place.invariant _ _ c.loop-place-test.true (sym c.in-Ok.ensures) c.if-not-push.ensures)
+loop-place-preserved c = rw c.end_in-place.ensures (underway_more _ _ _ _ c.loop-place.invariant _ _ c.loop-place-test.true (sym c.in-Ok.ensures) c.if-not-push.ensures)
 
 pub returns : goal.returns
 returns c =

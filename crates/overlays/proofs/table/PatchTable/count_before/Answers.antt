@@ -7,11 +7,11 @@ use Rattle.overlays.proofs.table.PatchTable.count_before.Goals as goal
 pub loop-low-init : goal.loop-low-init
 loop-low-init c = search_none (held c.args.self.now) c.args.end c.args.self.now.count (sym (held_length c.args.self.now))
 
-pub overflow-add-mid : goal.overflow-add-mid
-overflow-add-mid c = omega (arith, held_length c.args.self.now)
+pub overflow_add-mid : goal.overflow_add-mid
+overflow_add-mid c = omega (arith, held_length c.args.self.now)
 
-pub offset-bounds-self-mid : goal.offset-bounds-self-mid
-offset-bounds-self-mid c = omega (arith, held_length c.args.self.now)
+pub offset_bounds-self-mid : goal.offset_bounds-self-mid
+offset_bounds-self-mid c = omega (arith, held_length c.args.self.now)
 
 pub loop-low-preserved-then-self-mid : goal.loop-low-preserved-then-self-mid
 loop-low-preserved-then-self-mid c =

@@ -16,12 +16,12 @@ splice-self-requires c =
     let n = held_length c.args.self.now in
     record { order = (omega arith, (omega arith, omega arith)); room = omega arith; ends = omega arith }
 
-pub invariant-of-self : goal.invariant-of-self
-invariant-of-self c =
+pub invariant_of-self : goal.invariant_of-self
+invariant_of-self c =
     let t = c.args.self.now in
     let n = held_length t in
     let after = replaced_by (held t) _ _ _ _ c.args.bytes.now t.ascending c.around-low.ensures _ c.splice-self.ensures.after in
-    (omega arith, (omega arith, (ap (ascends 0) after ∙ ascending_replaced c.args.first c.args.end c.args.bytes.now (held t) c.requires t.ascending, tt)))
+    record { whole = omega arith; few = omega arith; ascending = ap (ascends 0) after ∙ ascending_replaced c.args.first c.args.end c.args.bytes.now (held t) c.requires t.ascending }
 
 pub returns : goal.returns
 returns c =
