@@ -2,7 +2,6 @@
 
 use extents::Table;
 use images::{LimeRange, NotLoaded};
-use paging::{Paging, Scheme};
 use spaces::{Fault, Refusal, Space, Watched, locate, watched_set};
 use std::io;
 
@@ -90,25 +89,6 @@ pub(crate) fn tell_answer(rt: &HostRuntime, at: u64, answer: Result<u8, Fault>) 
         Ok(b) => println!(rt; "{at:016x} has {b:02x}"),
         Err(fault) => {
             print!(rt; "{at:016x} has no byte: ")?;
-            tell_fault(rt, fault)
-        }
-    }
-}
-
-// Where the tables send an address, or what is missing on the way.
-pub(crate) fn tell_translation<P: Scheme, S: Space>(
-    rt: &HostRuntime,
-    paging: &Paging<P, S>,
-    at: u64,
-) -> io::Result<()> {
-    match paging.translate(at) {
-        Ok(translation) => {
-            let address = translation.address;
-            let size = translation.size;
-            println!(rt; "  {at:016x} goes to {address:016x}, on a page of {size} bytes")
-        }
-        Err(fault) => {
-            print!(rt; "  {at:016x} goes nowhere: ")?;
             tell_fault(rt, fault)
         }
     }
