@@ -1,4 +1,5 @@
 // Little-endian numbers in a file's bytes.
+#![tactic(auto)]
 
 mod number;
 

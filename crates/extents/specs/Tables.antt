@@ -51,7 +51,7 @@ pub record FirstContaining {E : Type 0} (bounds : E → Bounds) (es : List E) (a
   pub contains : Contains (bounds e) a
   pub none_before : NoneContains bounds (take place es) a
 
--- what an answer of `first-containing` says
+-- what an answer of `first_containing` says
 abbrev pub Finds : {E : Type 0} → (E → Bounds) → List E → ℕ → Option E → Type 0
 Finds bounds es a r = MatchOption r (NoneContains bounds es a) (FirstContaining bounds es a)
 

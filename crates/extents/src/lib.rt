@@ -1,4 +1,5 @@
 // Ranges of addresses, and tables of them in the caller's memory.
+#![tactic(auto)]
 
 mod extent;
 mod table;

@@ -1,4 +1,5 @@
 // Memory dumps as the bottom of a pile: raw files and LiME files.
+#![tactic(auto)]
 
 mod image;
 mod lime;

@@ -10,7 +10,7 @@ use Rattle.spaces.specs.Piles.{plain, Pile, shown, from_depth, LawfulPile}
 use Rattle.spaces.specs.Edits.{setting}
 use Rattle.spaces.specs.PileLaws.{Arose, Misses}
 use Rattle.spaces.specs.CallLaws.{Locates}
-use Rattle.spaces.specs.Lawful.{walk_lawful}
+use Rattle.spaces.proofs.Walking.{walk_lawful}
 use Rattle.spaces.proofs.Below.{trail_below}
 use Rattle.outsiders.specs.Shapes.{window}
 use Rattle.outsiders.specs.Sights.{through_window, Blames}

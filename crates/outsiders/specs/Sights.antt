@@ -3,7 +3,7 @@ use Rattle.spaces.specs.declared.fault.Fault.{Fault}
 use Rattle.spaces.specs.declared.watch.Watched.{Watched}
 use Rattle.spaces.specs.Maps.{Answer, own}
 use Rattle.spaces.specs.Walks.{found}
-use Rattle.spaces.specs.Lawful.{walk_on}
+use Rattle.spaces.proofs.Walking.{walk_on}
 use Rattle.spaces.specs.Piles.{Pile, shown, LawfulPile}
 use Rattle.spaces.specs.PileLaws.{Arose}
 use Rattle.outsiders.specs.Shapes.{window}

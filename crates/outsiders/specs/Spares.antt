@@ -21,22 +21,6 @@ raised_from : (w : Answer) (f : Fault) → raised w ≡ Err f → (g : Fault) ×
 raised_from (Ok b) f e = let z : ◌≡◌ {A = ℕ} 0 1 = cc in absurd (omega arith)
 raised_from (Err g) f e = (g, refl, sym (err_err {X = ℕ} (climbed g) f e))
 
-module _ (m : Map) (a further : ℕ) where
-  tries_first : (v : Answer) (there : Bool) → Memᴰ a (tried v there (m further) a further).1
-  tries_first (Ok b) there = Memᴰ.head refl
-  tries_first (Err f) true = Memᴰ.head refl
-  tries_first (Err f) false = Memᴰ.head refl
-
-  tried_footing : (o : Map) (v : Answer) (there : Bool) → Agree (tried v there (m further) a further).1 m o → tried v there (m further) a further ≡ tried v there (o further) a further
-  tried_footing o (Ok b) there h = refl
-  tried_footing o (Err f) true h = ap (λ (w : Answer). tried (Err f) true w a further) (h further (Memᴰ.tail (Memᴰ.head refl)))
-  tried_footing o (Err f) false h = refl
-
-  tried_faults : (v : Answer) → m a ≡ v → (there : Bool) (f : Fault) → (tried v there (m further) a further).0 ≡ Err f → Climbs m (tried v there (m further) a further).1 f
-  tried_faults (Ok b) q there f e = let z : ◌≡◌ {A = ℕ} 0 1 = cc in absurd (omega arith)
-  tried_faults (Err g) q true f e = let t = raised_from (m further) f e in (further, t.0, Memᴰ.tail (Memᴰ.head refl), t.1, t.2)
-  tried_faults (Err g) q false f e = (a, g, Memᴰ.head refl, q, sym (err_err {X = ℕ} (climbed g) f e))
-
 pub spare_lawful : (n : ℕ) → LawfulRule (spare n)
 spare_lawful n = record {
   footing = λ m o a h.
@@ -44,3 +28,18 @@ spare_lawful n = record {
       ∙ ap (λ (v : Answer). tried v (nat_lt (a + n) (2 ^ 64)) (o (a + n)) a (a + n)) (h a (tries_first m a (a + n) (m a) (nat_lt (a + n) (2 ^ 64))));
   faults = λ m a f e. inr (tried_faults m a (a + n) (m a) refl (nat_lt (a + n) (2 ^ 64)) f e);
 }
+  where
+    tries_first : (m : Map) (a further : ℕ) (v : Answer) (there : Bool) → Memᴰ a (tried v there (m further) a further).1
+    tries_first m a further (Ok b) there = Memᴰ.head refl
+    tries_first m a further (Err f) true = Memᴰ.head refl
+    tries_first m a further (Err f) false = Memᴰ.head refl
+
+    tried_footing : (m : Map) (a further : ℕ) (o : Map) (v : Answer) (there : Bool) → Agree (tried v there (m further) a further).1 m o → tried v there (m further) a further ≡ tried v there (o further) a further
+    tried_footing m a further o (Ok b) there h = refl
+    tried_footing m a further o (Err f) true h = ap (λ (w : Answer). tried (Err f) true w a further) (h further (Memᴰ.tail (Memᴰ.head refl)))
+    tried_footing m a further o (Err f) false h = refl
+
+    tried_faults : (m : Map) (a further : ℕ) (v : Answer) → m a ≡ v → (there : Bool) (f : Fault) → (tried v there (m further) a further).0 ≡ Err f → Climbs m (tried v there (m further) a further).1 f
+    tried_faults m a further (Ok b) q there f e = let z : ◌≡◌ {A = ℕ} 0 1 = cc in absurd (omega arith)
+    tried_faults m a further (Err g) q true f e = let t = raised_from (m further) f e in (further, t.0, Memᴰ.tail (Memᴰ.head refl), t.1, t.2)
+    tried_faults m a further (Err g) q false f e = (a, g, Memᴰ.head refl, q, sym (err_err {X = ℕ} (climbed g) f e))

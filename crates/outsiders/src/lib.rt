@@ -1,5 +1,6 @@
 // Spaces as somebody outside would write them, through the trait `Space` alone: a bottom with a cause of its own, a layer
 // that is a walk, and one that is not. They are here to be stacked in tests.
+#![tactic(auto)]
 
 mod ramp;
 mod spare;

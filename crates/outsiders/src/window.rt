@@ -1,4 +1,4 @@
-ghost use Rattle.spaces.specs.Lawful.{walk_on};
+ghost use Rattle.spaces.proofs.Walking.{walk_on};
 ghost use Rattle.outsiders.specs.Shapes.{window};
 
 use spaces::{Fault, Refusal, Space, climb, no_overlay_here};

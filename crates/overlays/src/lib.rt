@@ -1,4 +1,5 @@
 // Overlays: a layer that shows patch bytes in the place of those below.
+#![tactic(auto)]
 
 mod overlay;
 mod table;

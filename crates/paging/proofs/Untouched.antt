@@ -7,7 +7,7 @@ use Rattle.spaces.specs.Piles.{plain, LawfulPile, shown}
 use Rattle.spaces.specs.Edits.{Edit, setting, clearing, patch_at}
 use Rattle.spaces.specs.EditLaws.{Patching, Inside, Touches}
 use Rattle.spaces.specs.CallLaws.{Watches}
-use Rattle.spaces.specs.Lawful.{walk_lawful}
+use Rattle.spaces.proofs.Walking.{walk_lawful}
 use Rattle.spaces.proofs.Below.{trail_below}
 use Rattle.paging.specs.Formats.{Format}
 use Rattle.paging.specs.Paged.{paged}

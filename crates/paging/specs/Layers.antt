@@ -8,7 +8,7 @@ use Rattle.spaces.specs.Piles.{LawfulPile, shown}
 use Rattle.spaces.specs.Edits.{Edit}
 use Rattle.spaces.specs.EditLaws.{Inside}
 use Rattle.spaces.specs.CallLaws.{Watches}
-use Rattle.spaces.specs.Lawful.{walk_on}
+use Rattle.spaces.proofs.Walking.{walk_on}
 use Rattle.paging.specs.declared.entry.Page.{Page}
 use Rattle.paging.specs.declared.translation.Translation.{Translation}
 use Rattle.paging.specs.Formats.{Format}

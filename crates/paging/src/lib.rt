@@ -1,4 +1,5 @@
 // x86 paging in three schemes: a layer that leads each address through tables in the space below.
+#![tactic(auto)]
 
 mod bits;
 mod cause;

@@ -1,3 +1,4 @@
+pub mod Walking
 pub mod Filling
 pub mod Ascents
 pub mod Finding

@@ -1,7 +1,7 @@
 use Rattle.std.proofs.Common.{◌≡◌, ℕ, [], ◌∷◌, Ok, Err, Option, refl, ap, ◌∙◌}
 use Rattle.spaces.specs.Maps.{Answer, raised}
 use Rattle.spaces.specs.Rules.{LawfulRule}
-use Rattle.spaces.specs.Lawful.{walk_lawful}
+use Rattle.spaces.proofs.Walking.{walk_lawful}
 use Rattle.spaces.specs.Patches.{lookup}
 use Rattle.spaces.specs.Piles.{Layer, plain, overlay, patched, rule, LawfulLayer}
 use Rattle.spaces.specs.Walks.{give, ask, walked}

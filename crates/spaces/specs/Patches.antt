@@ -1,4 +1,4 @@
-use Rattle.std.specs.Prelude.{◌≡◌, ℕ, suc, ◌≤◌, Bool, true, cond, ◌&&◌, leb, List, [], ◌∷◌, ◌++◌, length, Some, None, filter, Option, ◌==◌, nat_le, nat_lt}
+use Rattle.std.specs.Prelude.{◌≡◌, ℕ, suc, ◌≤◌, Bool, true, cond, ◌&&◌, List, [], ◌∷◌, ◌++◌, length, Some, None, filter, Option, ◌==◌, nat_le, nat_lt}
 use Rattle.spaces.specs.declared.patch.Patch.{Patch}
 
 -- an overlay's patches, by address
@@ -22,7 +22,7 @@ abbrev pub before : ℕ → Patches → Patches
 before a ps = filter (λ p. nat_lt p.address a) ps
 
 abbrev pub from : ℕ → Patches → Patches
-from a ps = filter (λ p. leb a p.address) ps
+from a ps = filter (λ p. nat_le a p.address) ps
 
 -- a patch for each byte, from an address on
 abbrev pub laid : ℕ → List ℕ → Patches

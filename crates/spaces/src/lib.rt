@@ -1,4 +1,5 @@
 // Address spaces in a pile: a bottom that holds bytes, and layers that each show the space below in another way.
+#![tactic(auto)]
 
 mod cause;
 mod fault;

@@ -1,4 +1,5 @@
 // Tests of overlays: their limits and ends, and piles of them with spaces that somebody else wrote.
+#![tactic(auto)]
 
 #[cfg(test)]
 mod ends;

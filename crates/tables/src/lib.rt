@@ -1,5 +1,6 @@
 // Tests of paging: where addresses go in each scheme, what breaks a walk, bytes and edits seen through tables, and
 // tables that lie in paged memory themselves.
+#![tactic(auto)]
 
 #[cfg(test)]
 mod boards;

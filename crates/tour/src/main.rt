@@ -1,3 +1,5 @@
+#![tactic(auto)]
+
 mod tell;
 
 use extents::Table;

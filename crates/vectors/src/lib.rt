@@ -1,4 +1,5 @@
 // Tests of the loaders and images: files made by hand from the format's publication, damaged and cut ones among them.
+#![tactic(auto)]
 
 #[cfg(test)]
 mod cut;

@@ -1,5 +1,4 @@
 use Rattle.std.proofs.Common.{◌≡◌, ℕ, ◌+◌, ◌*◌, ◌^◌, ◌<◌, [], length, refl, ◌∙◌, arith, ltb-false, ltb-true}
-use Rattle.endian.specs.Little.{little_endian}
 use Rattle.endian.proofs.Bytes.{nothing, lowest_first, fits_more, fits_64}
 use Rattle.endian.proofs.number.+little_endian.Goals as goal
 

@@ -1,4 +1,4 @@
-use Rattle.spaces.specs.Lawful.{walk_lawful}
+use Rattle.spaces.proofs.Walking.{walk_lawful}
 use Rattle.spaces.proofs.laws.every_walk_is_lawful.Goals as goal
 
 pub returns : goal.returns
