@@ -31,7 +31,7 @@ def read(path):
 
 
 def made(text):
-    """Names that Rattle makes: those that stand behind `goal.` or `given.`, in `elim`'s cases and behind a path of c or l."""
+    """Names that Rattle makes: those that stand behind `goal.` or `given.`."""
     return set(re.findall(r"\b(?:goal|given)\.(" + HYPHENED + ")", text))
 
 
