@@ -5,7 +5,7 @@ ghost use Rattle.extents.specs.Tables.{held};
 ghost use Rattle.images.specs.Images.{image};
 
 use extents::{Stored, Table};
-use spaces::{Cause, Fault, Refusal, Space, no_overlay_here};
+use spaces::{Cause, Edit, Fault, FaultCause, Refusal, Space, no_overlay_here};
 
 // A file's bytes at the addresses of a table of extents.
 #[derive(Drop)]
@@ -34,11 +34,7 @@ impl<E: Stored + Copy> Space for Image<'_, '_, E> {
         Ok(self.file[place as usize])
     }
 
-    fn set(&mut self, depth: u8, first: u64, bytes: &[u8]) -> Result<(), Refusal> {
-        Err(no_overlay_here(first, bytes.len() as u64))
-    }
-
-    fn clear(&mut self, depth: u8, first: u64, count: u64) -> Result<(), Refusal> {
-        Err(no_overlay_here(first, count))
+    fn edit(&mut self, depth: u8, edit: Edit<'_>) -> Result<(), Refusal> {
+        Err(no_overlay_here(edit))
     }
 }

@@ -1,7 +1,7 @@
 ghost use Rattle.spaces.specs.Lawful.{bottom};
 ghost use Rattle.outsiders.specs.Shapes.{ramp};
 
-use spaces::{Fault, Refusal, Space, no_overlay_here};
+use spaces::{Edit, Fault, Refusal, Space, no_overlay_here};
 
 // Bytes that count up from 0, as many as it is long.
 #[derive(Drop)]
@@ -19,11 +19,7 @@ impl Space for Ramp {
         Err(Fault::own(at, 0x77))
     }
 
-    fn set(&mut self, depth: u8, first: u64, bytes: &[u8]) -> Result<(), Refusal> {
-        Err(no_overlay_here(first, bytes.len() as u64))
-    }
-
-    fn clear(&mut self, depth: u8, first: u64, count: u64) -> Result<(), Refusal> {
-        Err(no_overlay_here(first, count))
+    fn edit(&mut self, depth: u8, edit: Edit<'_>) -> Result<(), Refusal> {
+        Err(no_overlay_here(edit))
     }
 }

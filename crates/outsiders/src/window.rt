@@ -1,7 +1,7 @@
 ghost use Rattle.spaces.proofs.Walking.{walk_on};
 ghost use Rattle.outsiders.specs.Shapes.{window};
 
-use spaces::{Fault, Refusal, Space, climb, no_overlay_here};
+use spaces::{Edit, Fault, Refusal, Space, climb, edit_under};
 
 // A part of the space below, shown from address 0 on.
 #[derive(Drop)]
@@ -25,17 +25,7 @@ impl<S: Space> Space for Window<S> {
         }
     }
 
-    fn set(&mut self, depth: u8, first: u64, bytes: &[u8]) -> Result<(), Refusal> {
-        if depth > 0 {
-            return self.below.set(depth - 1, first, bytes);
-        }
-        Err(no_overlay_here(first, bytes.len() as u64))
-    }
-
-    fn clear(&mut self, depth: u8, first: u64, count: u64) -> Result<(), Refusal> {
-        if depth > 0 {
-            return self.below.clear(depth - 1, first, count);
-        }
-        Err(no_overlay_here(first, count))
+    fn edit(&mut self, depth: u8, edit: Edit<'_>) -> Result<(), Refusal> {
+        edit_under(&mut self.below, depth, edit)
     }
 }

@@ -3,7 +3,7 @@ ghost use Rattle.spaces.specs.Lawful.{overlay_on};
 ghost use Rattle.overlays.specs.Tables.{held, held_lawful};
 
 use crate::table::PatchTable;
-use spaces::{Fault, Refusal, Space, climb};
+use spaces::{Edit, Fault, Refusal, Space, climb};
 
 // A layer of patches over the space below.
 #[derive(Drop)]
@@ -27,24 +27,16 @@ impl<S: Space> Space for Overlay<S> {
     ghost meaning = { λ s. overlay_on (held s.patches) (held_lawful s.patches) (S.Space.meaning s.below) };
 
     fn byte(&self, at: u64) -> Result<u8, Fault> {
-        if let Some(b) = self.patches.lookup(at) {
-            return Ok(b);
-        }
-        let b = climb(self.below.byte(at))?;
-        Ok(b)
+        Ok(match self.patches.lookup(at) {
+            Some(b) => b,
+            None => climb(self.below.byte(at))?,
+        })
     }
 
-    fn set(&mut self, depth: u8, first: u64, bytes: &[u8]) -> Result<(), Refusal> {
-        if depth > 0 {
-            return self.below.set(depth - 1, first, bytes);
+    fn edit(&mut self, depth: u8, edit: Edit<'_>) -> Result<(), Refusal> {
+        match depth.checked_sub(1) {
+            Some(depth) => self.below.edit(depth, edit),
+            None => self.patches.edit(edit),
         }
-        self.patches.set(first, bytes)
-    }
-
-    fn clear(&mut self, depth: u8, first: u64, count: u64) -> Result<(), Refusal> {
-        if depth > 0 {
-            return self.below.clear(depth - 1, first, count);
-        }
-        self.patches.clear(first, count)
     }
 }

@@ -6,7 +6,7 @@ ghost use Rattle.paging.specs.Layers.{paging_on, Translated, EditsBelow};
 use crate::scheme::Scheme;
 use crate::translation::Translation;
 use crate::walk::{byte_below, walk};
-use spaces::{Fault, Refusal, Space, Watched, no_overlay_here, watched_set};
+use spaces::{Edit, Fault, Refusal, Space, Watched, edit_under, watched_set};
 
 // A space as the tables in the space below show it, from the root table by CR3 on.
 #[derive(Drop)]
@@ -48,17 +48,7 @@ impl<P: Scheme, S: Space> Space for Paging<P, S> {
         byte_below(&self.below, place)
     }
 
-    fn set(&mut self, depth: u8, first: u64, bytes: &[u8]) -> Result<(), Refusal> {
-        if depth > 0 {
-            return self.below.set(depth - 1, first, bytes);
-        }
-        Err(no_overlay_here(first, bytes.len() as u64))
-    }
-
-    fn clear(&mut self, depth: u8, first: u64, count: u64) -> Result<(), Refusal> {
-        if depth > 0 {
-            return self.below.clear(depth - 1, first, count);
-        }
-        Err(no_overlay_here(first, count))
+    fn edit(&mut self, depth: u8, edit: Edit<'_>) -> Result<(), Refusal> {
+        edit_under(&mut self.below, depth, edit)
     }
 }

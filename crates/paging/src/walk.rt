@@ -10,7 +10,7 @@ ghost use Rattle.paging.specs.Entries.{as_number, entry_found};
 use crate::cause::PagingCause;
 use crate::entry::{Entry, Page, Target};
 use crate::scheme::Scheme;
-use spaces::{Fault, Space, climb};
+use spaces::{Fault, FaultCause, Space, climb};
 
 // The byte below at an address; a fault comes up one deeper.
 pub(crate) fn byte_below<S: Space>(below: &S, at: u64) -> Result<u8, Fault>

@@ -2,7 +2,8 @@ use Rattle.std.specs.Prelude.{◌≡◌, ℕ, zero, suc, ◌+◌, ◌^◌, cond,
 use Rattle.spaces.specs.declared.refusal.Refusal.{Refusal}
 use Rattle.spaces.specs.declared.refusal.Refusal.TheVariants.{PastTheEnd, NoOverlay, TooManyPatches}
 use Rattle.spaces.specs.Patches.{Patches, lookup, replaced}
-use Rattle.spaces.specs.Piles.{Layer, plain, overlay, Pile}
+use Rattle.spaces.specs.Rules.{Rule}
+use Rattle.spaces.specs.Piles.{Layer, plain, overlay, Pile, on}
 
 -- a change of one overlay: patch consecutive addresses, or take back the patches among some
 pub data Edit : Type 0 where
@@ -92,3 +93,7 @@ pub record EditsPatches (old new : Patches) (e : Edit) (r : Outcome) : Type 0 wh
 pub record Edits (old new : Pile) (depth : ℕ) (e : Edit) (r : Outcome) : Type 0 where
   pub answer : r ≡ outcome (refusal old depth e)
   pub pile : new ≡ edited old depth e
+
+-- the same of whatever layer over a pile, overlays apart
+abbrev pub EditsUnder : Pile → Pile → ℕ → Edit → Outcome → Type 0
+EditsUnder old new depth e r = (l : Rule) → Edits (on l old) (on l new) depth e r

@@ -8,6 +8,7 @@ pub mod Piles
 pub mod Trails
 pub mod Lawful
 pub mod Edits
+pub mod Meant
 pub mod EditLaws
 pub mod PileLaws
 pub mod CallLaws

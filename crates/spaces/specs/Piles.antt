@@ -23,6 +23,10 @@ pub record Pile : Type 0 where
   pub layers : List Layer
   pub base : Map
 
+-- a layer over a pile
+abbrev pub on : Rule → Pile → Pile
+on r p = record { layers = plain r ∷ p.layers; base = p.base }
+
 -- the rules applied to the bottom's map, from the bottom up
 abbrev pub composed : List Layer → Map → Map
 composed [] m = m

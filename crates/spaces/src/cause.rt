@@ -1,8 +1,6 @@
-ghost use Rattle.std.specs.Prelude.{◌≡◌};
 ghost use Rattle.spaces.specs.Numbers.{cause_number};
-ghost use Rattle.spaces.specs.Maps.{own};
 
-use crate::fault::Fault;
+use crate::number::{FaultCause, Numbered};
 
 // Why an image has no byte at an address, each with its number. Other spaces have causes of their own.
 #[derive(Clone, Copy, Debug, PartialEq, Eq)]
@@ -13,16 +11,12 @@ pub enum Cause {
     NotStored = 0x02,
 }
 
-impl Cause {
-    pub fn number(self) -> u8
-        ensures { result ≡ cause_number self }
-    {
+impl Numbered for Cause {
+    ghost number = { cause_number };
+
+    fn number(self) -> u8 {
         self as u8
     }
-    // The fault of a space of which it is the cause at an address.
-    pub fn at(self, address: u64) -> Fault
-        ensures { result ≡ own address (cause_number self) }
-    {
-        Fault::own(address, self.number())
-    }
 }
+
+impl FaultCause for Cause {}

@@ -2,25 +2,31 @@
 #![tactic(auto)]
 
 mod cause;
+mod edit;
 mod fault;
 mod laws;
+mod number;
 mod origin;
 mod patch;
 mod refusal;
 mod rise;
 mod space;
+mod under;
 mod watch;
 
 pub use cause::Cause;
+pub use edit::Edit;
 pub use fault::Fault;
 pub use laws::{
     every_edit_changes_its_addresses_alone, every_edit_off_the_trail_keeps_the_read,
     every_fault_arose_where_it_says, every_overlay_shows_its_patches,
     every_read_rests_on_its_trail, every_walk_is_lawful,
 };
+pub use number::{FaultCause, Numbered};
 pub use origin::locate;
 pub use patch::Patch;
 pub use refusal::Refusal;
-pub use rise::{climb, no_overlay_here};
+pub use rise::climb;
 pub use space::Space;
+pub use under::{edit_under, no_overlay_here};
 pub use watch::{Watched, watched_set};

@@ -2,7 +2,9 @@ ghost use Rattle.std.specs.Prelude.{◌≡◌};
 ghost use Rattle.spaces.specs.Piles.{LawfulPile, shown};
 ghost use Rattle.spaces.specs.Reads.{Fills};
 ghost use Rattle.spaces.specs.Edits.{Edits, setting, clearing};
+ghost use Rattle.spaces.specs.Meant.{meant};
 
+use crate::edit::Edit;
 use crate::fault::Fault;
 use crate::refusal::Refusal;
 
@@ -31,11 +33,21 @@ pub trait Space {
         (out.len(), None)
     }
 
+    // Changes the overlay at a depth.
+    fn edit(&mut self, depth: u8, edit: Edit<'_>) -> Result<(), Refusal>
+        ensures { Edits (meaning self.old).pile (meaning self.new).pile depth (meant edit.entry) result };
+
     // Patches consecutive addresses in the overlay at a depth.
     fn set(&mut self, depth: u8, first: u64, bytes: &[u8]) -> Result<(), Refusal>
-        ensures { Edits (meaning self.old).pile (meaning self.new).pile depth (setting first bytes.now) result };
+        ensures { Edits (meaning self.old).pile (meaning self.new).pile depth (setting first bytes.now) result }
+    {
+        self.edit(depth, Edit::Set { first, bytes })
+    }
 
     // Takes back the patches among some addresses in the overlay at a depth.
     fn clear(&mut self, depth: u8, first: u64, count: u64) -> Result<(), Refusal>
-        ensures { Edits (meaning self.old).pile (meaning self.new).pile depth (clearing first count) result };
+        ensures { Edits (meaning self.old).pile (meaning self.new).pile depth (clearing first count) result }
+    {
+        self.edit(depth, Edit::Clear { first, count })
+    }
 }

@@ -2,7 +2,7 @@
 
 use extents::Table;
 use images::{LimeRange, NotLoaded};
-use spaces::{Fault, Refusal, Space, Watched, locate, watched_set};
+use spaces::{Fault, Numbered, Refusal, Space, Watched, locate, watched_set};
 use std::io;
 
 pub(crate) fn tell_load(

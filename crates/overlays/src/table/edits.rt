@@ -1,11 +1,12 @@
 ghost use Rattle.std.specs.Prelude.{◌+◌, ◌≤◌, length};
 ghost use Rattle.spaces.specs.Edits.{EditsPatches, setting, clearing};
+ghost use Rattle.spaces.specs.Meant.{meant};
 ghost use Rattle.spaces.specs.EditLaws.{EditLaws, ClearLaw};
 ghost use Rattle.overlays.specs.Tables.{held, Around, Replaces};
 
 use crate::table::PatchTable;
 use crate::table::places::splice;
-use spaces::Refusal;
+use spaces::{Edit, Refusal};
 
 impl PatchTable {
     // Patches consecutive addresses, unless more than 256 would be patched.
@@ -23,6 +24,16 @@ impl PatchTable {
         ensures fits { ClearLaw first count result }
     {
         self.replace(first, first as u128 + count as u128, &[])
+    }
+
+    // The same, by the edit.
+    pub(crate) fn edit(&mut self, edit: Edit<'_>) -> Result<(), Refusal>
+        ensures { EditsPatches (held self.old) (held self.new) (meant edit.entry) result }
+    {
+        match edit {
+            Edit::Set { first, bytes } => self.set(first, bytes),
+            Edit::Clear { first, count } => self.clear(first, count),
+        }
     }
 
     // The places at which the patches from first to before end begin and end.

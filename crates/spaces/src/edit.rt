@@ -1,0 +1,24 @@
+ghost use Rattle.std.specs.Prelude.{◌≡◌, ◌+◌};
+ghost use Rattle.spaces.specs.Edits.{first_of, count_of};
+ghost use Rattle.spaces.specs.Meant.{meant};
+
+// A change of one overlay.
+#[derive(Clone, Copy, Debug, PartialEq, Eq)]
+pub enum Edit<'a> {
+    // Patch consecutive addresses, each with its byte.
+    Set { first: u64, bytes: &'a [u8] },
+    // Take back the patches among so many addresses.
+    Clear { first: u64, count: u64 },
+}
+
+impl Edit<'_> {
+    // The address behind its last one.
+    pub fn end(self) -> u128
+        ensures { result ≡ first_of (meant self.entry) + count_of (meant self.entry) }
+    {
+        match self {
+            Edit::Set { first, bytes } => first as u128 + bytes.len() as u128,
+            Edit::Clear { first, count } => first as u128 + count as u128,
+        }
+    }
+}
