@@ -1,4 +1,5 @@
 pub mod Numbers
+pub mod Texts
 pub mod Maps
 pub mod Reads
 pub mod Rules

@@ -1,5 +1,9 @@
-ghost use Rattle.std.specs.Prelude.{◌≡◌};
+ghost use Rattle.std.specs.Prelude.{◌≡◌, Some};
 ghost use Rattle.spaces.specs.Maps.{own};
+ghost use Rattle.spaces.specs.Texts.{fault_text};
+
+use std::error::Error;
+use std::fmt;
 
 // Why an address has no byte: how far below the space that was read, at which address there, and the cause.
 #[derive(Clone, Copy, Debug, PartialEq, Eq)]
@@ -21,3 +25,17 @@ impl Fault {
         }
     }
 }
+
+impl fmt::Display for Fault {
+    ghost output = { λ f. Some (fault_text f) };
+
+    fn fmt<W: fmt::Write>(&self, f: &mut fmt::Formatter<W>) -> fmt::Result {
+        write!(
+            f,
+            "depth {}, address {:016x}, cause {:02x}",
+            self.depth, self.address, self.cause
+        )
+    }
+}
+
+impl Error for Fault {}

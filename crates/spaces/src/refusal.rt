@@ -1,6 +1,10 @@
+ghost use Rattle.std.specs.Prelude.{Some};
 ghost use Rattle.spaces.specs.Numbers.{refusal_number};
+ghost use Rattle.spaces.specs.Texts.{refusal_text};
 
 use crate::number::Numbered;
+use std::error::Error;
+use std::fmt;
 
 // Why a call is refused, each with its number.
 #[derive(Clone, Copy, Debug, PartialEq, Eq)]
@@ -28,3 +32,13 @@ impl Numbered for Refusal {
         self as u8
     }
 }
+
+impl fmt::Display for Refusal {
+    ghost output = { λ r. Some (refusal_text r) };
+
+    fn fmt<W: fmt::Write>(&self, f: &mut fmt::Formatter<W>) -> fmt::Result {
+        write!(f, "{:02x}", self.number())
+    }
+}
+
+impl Error for Refusal {}
