@@ -17,35 +17,34 @@ pub(crate) const GIB_1: u64 = 0x4000_0000;
 // The sum of 1 << 39, 2 << 30, 3 << 21, 4 << 12 and 0x567: its indices are 1, 2, 3 and 4 from level 4 down.
 pub(crate) const WAY: u64 = 0x80_8060_4567;
 
-fn board() -> Board {
-    Overlay::new(Ramp { length: 0 })
+// An entry of a page table, which lies there with its lowest byte first.
+pub(crate) trait Entry: Copy {
+    fn lay(self, board: &mut Board, at: u64) -> Result<(), Refusal>;
 }
 
-// Lays entries of 4 bytes, each at its address.
-pub(crate) fn lay_narrow(board: &mut Board, entries: &[(u64, u32)]) -> Result<(), Refusal> {
-    for (at, value) in entries {
-        board.set(0, *at, &value.to_le_bytes())?;
+impl Entry for u32 {
+    fn lay(self, board: &mut Board, at: u64) -> Result<(), Refusal> {
+        board.set(0, at, &self.to_le_bytes())
+    }
+}
+
+impl Entry for u64 {
+    fn lay(self, board: &mut Board, at: u64) -> Result<(), Refusal> {
+        board.set(0, at, &self.to_le_bytes())
+    }
+}
+
+// Lays entries, each at its address.
+pub(crate) fn lay<E: Entry>(board: &mut Board, entries: &[(u64, E)]) -> Result<(), Refusal> {
+    for (at, entry) in entries {
+        entry.lay(board, *at)?;
     }
     Ok(())
 }
 
-// Lays entries of 8 bytes, each at its address.
-pub(crate) fn lay_wide(board: &mut Board, entries: &[(u64, u64)]) -> Result<(), Refusal> {
-    for (at, value) in entries {
-        board.set(0, *at, &value.to_le_bytes())?;
-    }
-    Ok(())
-}
-
-pub(crate) fn narrow(entries: &[(u64, u32)]) -> Result<Board, Refusal> {
-    let mut board = board();
-    lay_narrow(&mut board, entries)?;
-    Ok(board)
-}
-
-pub(crate) fn wide(entries: &[(u64, u64)]) -> Result<Board, Refusal> {
-    let mut board = board();
-    lay_wide(&mut board, entries)?;
+pub(crate) fn laid<E: Entry>(entries: &[(u64, E)]) -> Result<Board, Refusal> {
+    let mut board = Overlay::new(Ramp { length: 0 });
+    lay(&mut board, entries)?;
     Ok(board)
 }
 

@@ -1,4 +1,4 @@
-use crate::boards::{Board, fault, narrow};
+use crate::boards::{Board, fault, laid};
 use paging::{Paging, TwoLevel};
 use spaces::{Refusal, Space};
 use std::test::Fail;
@@ -6,7 +6,7 @@ use std::test::Fail;
 // Page 0 is at 0x9000 and page 1 before it at 0x8000; page 2 is not present, and its entry is the table's last.
 // The last 4 MiB are at 0xc0_0000, so the last address goes to 0xff_ffff.
 fn two_pages() -> Result<Board, Refusal> {
-    let mut board = narrow(&[
+    let mut board = laid::<u32>(&[
         (0x1000, 0x2003),
         (0x2000, 0x9003),
         (0x2004, 0x8003),

@@ -1,11 +1,11 @@
-use crate::boards::{Board, GIB_1, KIB_4, MIB_2, WAY, fault, goes, wide};
+use crate::boards::{Board, GIB_1, KIB_4, MIB_2, WAY, fault, goes, laid};
 use paging::{FourLevel, Paging};
 use spaces::{Refusal, Space};
 use std::test::Fail;
 
 // Under root 0x1000 its entries are at 0x1000 + 8 * 1, 0x2000 + 8 * 2, 0x3000 + 8 * 3 and 0x4000 + 8 * 4.
 fn tables() -> Result<Board, Refusal> {
-    wide(&[
+    laid::<u64>(&[
         (0x1008, 0x2003),
         (0x2010, 0x3003),
         (0x3018, 0x4003),
@@ -73,7 +73,7 @@ fn an_entry_of_four_levels_breaks_the_walk(rt: HostRuntime) -> Result<(), Fail> 
 // of the upper half 256, 0, 0 and 0. 8 * 255, 8 * 256 and 8 * 511 are 0x7f8, 0x800 and 0xff8.
 #[test]
 fn addresses_have_a_lower_and_an_upper_half(rt: HostRuntime) -> Result<(), Fail> {
-    let mut board = wide(&[
+    let mut board = laid::<u64>(&[
         // through tables as high as entries can name
         (0xf_ffff_ffff_f7f8, 0x8_0000_0000_2003),
         (0x8_0000_0000_2ff8, 0x4_0000_0000_3003),
@@ -126,7 +126,7 @@ fn addresses_have_a_lower_and_an_upper_half(rt: HostRuntime) -> Result<(), Fail>
 
 #[test]
 fn larger_pages_and_unread_bits(rt: HostRuntime) -> Result<(), Fail> {
-    let board = wide(&[
+    let board = laid::<u64>(&[
         // at level 4 bit 7 is no size, and bits 63:52 and 11:1 say nothing
         (0x1000, 0xfff0_0000_0000_2fff),
         (0x2000, 0x3003),
@@ -170,7 +170,7 @@ fn larger_pages_and_unread_bits(rt: HostRuntime) -> Result<(), Fail> {
 // entry, and 0xffff_ffff_ffff_f000, whose indices are all 511, is the same page.
 #[test]
 fn a_table_that_points_at_itself(rt: HostRuntime) -> Result<(), Fail> {
-    let board = wide(&[(0x1000, 0x1003), (0x1ff8, 0x1003)])?;
+    let board = laid::<u64>(&[(0x1000, 0x1003), (0x1ff8, 0x1003)])?;
     let mut paging = Paging::new(FourLevel, 0x1000, board);
     assert_eq!(rt; paging.translate(0), goes(0x1000, KIB_4));
     assert_eq!(rt; paging.translate(u64::MAX), goes(0x1fff, KIB_4));

@@ -1,4 +1,4 @@
-use crate::boards::{Board, KIB_4, WAY, fault, goes, lay_narrow, lay_wide, wide};
+use crate::boards::{Board, KIB_4, WAY, fault, goes, laid, lay};
 use overlays::Overlay;
 use paging::{FourLevel, Pae, Paging, Scheme, TwoLevel};
 use spaces::{Refusal, Space};
@@ -10,7 +10,7 @@ type Guest<P> = Paging<P, Overlay<Paging<FourLevel, Board>>>;
 
 // The host's tables from 0x1000 on: the guest's page 1 is at 0xa000, page 2 at 0x9000, and so on down to 5 at 0x6000.
 fn host() -> Result<Board, Refusal> {
-    wide(&[
+    laid::<u64>(&[
         (0x1000, 0x2003),
         (0x2000, 0x3003),
         (0x3000, 0x4003),
@@ -31,7 +31,7 @@ fn guest<P: Scheme>(scheme: P, cr3: u64, board: Board) -> Guest<P> {
 // which the host has at 0xa008, 0x9010, 0x8018 and 0x7020. They lead to the guest's 0x5567, which is the host's 0x6567.
 fn four_on_four() -> Result<Guest<FourLevel>, Refusal> {
     let mut board = host()?;
-    lay_wide(
+    lay::<u64>(
         &mut board,
         &[
             (0xa008, 0x2003),
@@ -116,7 +116,7 @@ fn narrower_guests(rt: HostRuntime) -> Result<(), Fail> {
     // 0x2000 + 8 * 3 and 0x3000 + 8 * 4, which the host has at 0xa038, 0x9018 and 0x8020, and 0x4567 is its 0x7567
     let at = 0xc060_4567;
     let mut board = host()?;
-    lay_wide(
+    lay::<u64>(
         &mut board,
         &[(0xa038, 0x2003), (0x9018, 0x3003), (0x8020, 0x4003)],
     )?;
@@ -132,7 +132,7 @@ fn narrower_guests(rt: HostRuntime) -> Result<(), Fail> {
     // which the host has at 0xa00c and 0x9014, and 0x5678 is its 0x6678
     let at = 0xc0_5678;
     let mut board = host()?;
-    lay_narrow(&mut board, &[(0xa00c, 0x2003), (0x9014, 0x5003)])?;
+    lay::<u32>(&mut board, &[(0xa00c, 0x2003), (0x9014, 0x5003)])?;
     board.set(0, 0x6678, b"t")?;
     let mut space = guest(TwoLevel, 0x1000, board);
     assert_eq!(rt; space.translate(at), goes(0x5678, KIB_4));

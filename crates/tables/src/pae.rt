@@ -1,4 +1,4 @@
-use crate::boards::{Board, KIB_4, MIB_2, fault, goes, wide};
+use crate::boards::{Board, KIB_4, MIB_2, fault, goes, laid};
 use paging::{Pae, Paging};
 use spaces::{Refusal, Space};
 use std::test::Fail;
@@ -9,7 +9,7 @@ const WAY: u64 = 0xc160_2345;
 // Under root 0x1020 its entries are at 0x1020 + 8 * 3, 0x8_7654_3000 + 8 * 0xb and 0xf_ffff_ffff_f000 + 8 * 2. The last
 // address has index 3 and then 0x1ff twice, and 8 * 0x1ff is 0xff8; of those two entries the flags are bit 0 alone.
 fn tables() -> Result<Board, Refusal> {
-    wide(&[
+    laid::<u64>(&[
         (0x1038, 0x8_7654_3003),
         (0x8_7654_3058, 0xf_ffff_ffff_f003),
         (0xf_ffff_ffff_f010, 0xa_bcde_f012_3003),
@@ -96,7 +96,7 @@ fn the_root_is_not_rounded_to_a_page(rt: HostRuntime) -> Result<(), Fail> {
         (0xffff_ffe0, 0xffff_fff8),
     ];
     for (cr3, place) in cases {
-        let board = wide(&[(place, 0x2003), (0x2000, 0x60_0083)])?;
+        let board = laid::<u64>(&[(place, 0x2003), (0x2000, 0x60_0083)])?;
         let mut paging = Paging::new(Pae, cr3, board);
         assert_eq!(rt; paging.translate(0xc000_1234), goes(0x60_1234, MIB_2));
         // without the first byte of the entry
@@ -108,7 +108,7 @@ fn the_root_is_not_rounded_to_a_page(rt: HostRuntime) -> Result<(), Fail> {
 
 #[test]
 fn pages_of_2_mib_and_unread_bits(rt: HostRuntime) -> Result<(), Fail> {
-    let board = wide(&[
+    let board = laid::<u64>(&[
         // at level 3 bit 7 is no size, and bits 63:52 and 11:1 say nothing
         (0x1020, 0xfff0_0000_0000_2fff),
         (0x2000, 0x60_0083),

@@ -1,4 +1,4 @@
-use crate::boards::{Board, KIB_4, MIB_4, fault, goes, narrow};
+use crate::boards::{Board, KIB_4, MIB_4, fault, goes, laid};
 use paging::{Paging, TwoLevel};
 use spaces::{Refusal, Space};
 use std::test::Fail;
@@ -9,7 +9,7 @@ const WAY: u64 = 0xc080_1234;
 // Under root 0x1000 its entries are at 0x1000 + 4 * 0x302 and 0xf000_5000 + 4 * 1. The last address has index 0x3ff at
 // both levels, and 4 * 0x3ff is 0xffc; of its entries the flags are bit 0 alone.
 fn tables() -> Result<Board, Refusal> {
-    narrow(&[
+    laid::<u32>(&[
         (0x1c08, 0xf000_5003),
         (0xf000_5004, 0x9abc_d003),
         (0x1ffc, 0x6001),
@@ -77,7 +77,7 @@ fn an_entry_of_two_levels_breaks_the_walk(rt: HostRuntime) -> Result<(), Fail> {
 
 #[test]
 fn pages_of_4_mib_and_unread_bits(rt: HostRuntime) -> Result<(), Fail> {
-    let board = narrow(&[
+    let board = laid::<u32>(&[
         (0x1004, 0x40_0083),
         // base 0xffc0_0000, with bits 21 and 12 and all bits below it
         (0x1008, 0xffe0_1fff),
@@ -100,7 +100,11 @@ fn pages_of_4_mib_and_unread_bits(rt: HostRuntime) -> Result<(), Fail> {
     for (at, expected) in cases {
         assert_eq!(rt; paging.translate(at), expected);
     }
-    let paging = Paging::new(TwoLevel, u64::MAX, narrow(&[(0xffff_f004, 0x40_0083)])?);
+    let paging = Paging::new(
+        TwoLevel,
+        u64::MAX,
+        laid::<u32>(&[(0xffff_f004, 0x40_0083)])?,
+    );
     assert_eq!(rt; paging.translate(0x40_0010), goes(0x40_0010, MIB_4));
     Ok(())
 }
