@@ -1,9 +1,10 @@
+ghost use Rattle.std.specs.Prelude.{refl};
 ghost use Rattle.paging.specs.Schemes.{pae};
 ghost use Rattle.paging.specs.Sounds.{pae_sound};
 
 use crate::bits::{bit, bits, field};
 use crate::entry::Entry;
-use crate::scheme::{Scheme, Shape};
+use crate::scheme::Scheme;
 use crate::target::{page, table};
 
 // PAE: three levels of 8-byte entries, for addresses below 2^32. The root table has four entries.
@@ -17,14 +18,15 @@ impl Scheme for Pae {
 
     ghost format = { pae };
 
-    ghost sound = { pae_sound };
+    ghost LEVELS = { pae.levels };
 
-    fn shape() -> Shape {
-        Shape {
-            levels: Self::LEVELS,
-            width: Self::WIDTH,
-        }
-    }
+    ghost WIDTH = { pae.width };
+
+    ghost levels = { refl };
+
+    ghost width = { refl };
+
+    ghost sound = { pae_sound };
 
     fn lawful(at: u64) -> bool {
         at < 1 << 32

@@ -1,9 +1,10 @@
+ghost use Rattle.std.specs.Prelude.{refl};
 ghost use Rattle.paging.specs.Schemes.{two_level};
 ghost use Rattle.paging.specs.Sounds.{two_sound};
 
 use crate::bits::{bit, bits, field};
 use crate::entry::Entry;
-use crate::scheme::{Scheme, Shape};
+use crate::scheme::Scheme;
 use crate::target::{page, table};
 
 // Two levels of 4-byte entries, for addresses below 2^32.
@@ -17,14 +18,15 @@ impl Scheme for TwoLevel {
 
     ghost format = { two_level };
 
-    ghost sound = { two_sound };
+    ghost LEVELS = { two_level.levels };
 
-    fn shape() -> Shape {
-        Shape {
-            levels: Self::LEVELS,
-            width: Self::WIDTH,
-        }
-    }
+    ghost WIDTH = { two_level.width };
+
+    ghost levels = { refl };
+
+    ghost width = { refl };
+
+    ghost sound = { two_sound };
 
     fn lawful(at: u64) -> bool {
         at < 1 << 32

@@ -38,9 +38,8 @@ fn entry<P: Scheme, S: Space>(below: &S, table: u64, level: u8, at: u64) -> Resu
     requires { table < 2 ^ 52 }
     ensures { result ≡ entry_found P.Scheme.format (shown (S.Space.meaning below.now).pile) at level table }
 {
-    let width = P::shape().width;
-    let place = table + P::index(level, at) * width as u64;
-    let raw = number(below, place, width)?;
+    let place = table + P::index(level, at) * P::WIDTH as u64;
+    let raw = number(below, place, P::WIDTH)?;
     let Some(entry) = P::decode(level, raw) else {
         return Err(PagingCause::Absent(level).at(at));
     };
@@ -55,7 +54,7 @@ pub(crate) fn walk<P: Scheme, S: Space>(below: &S, cr3: u64, at: u64) -> Result<
     if !P::lawful(at) {
         return Err(PagingCause::Unlawful.at(at));
     }
-    let mut level = P::shape().levels;
+    let mut level = P::LEVELS;
     let mut table = P::root(cr3);
     loop {
         let entry = entry::<P, S>(below, table, level, at)?;
