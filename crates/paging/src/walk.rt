@@ -54,14 +54,13 @@ pub(crate) fn walk<P: Scheme, S: Space>(below: &S, cr3: u64, at: u64) -> Result<
     if !P::lawful(at) {
         return Err(PagingCause::Unlawful.at(at));
     }
-    let mut level = P::LEVELS;
     let mut table = P::root(cr3);
-    loop {
+    for level in (1..=P::LEVELS).rev() {
         let entry = entry::<P, S>(below, table, level, at)?;
         match entry.target {
             Target::Leaf(page) => return Ok(page),
             Target::Table(next) => table = next,
         }
-        level -= 1;
     }
+    unreachable!()
 }
