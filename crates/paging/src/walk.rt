@@ -22,15 +22,14 @@ pub(crate) fn byte_below<S: Space>(below: &S, at: u64) -> Result<u8, Fault>
 // The number in so many bytes below, the lowest read first.
 fn number<S: Space>(below: &S, at: u64, width: u8) -> Result<u64, Fault>
     requires { (width ≤ 8) × (at + width < 2 ^ 64) }
-    ensures is { result ≡ as_number (got (shown (S.Space.meaning below.now).pile) (span at width)) }
-    ensures bound { IfOk result (λ n. n < 2 ^ (8 * width)) }
+    ensures { result ≡ as_number (got (shown (S.Space.meaning below.now).pile) (span at width)) }
 {
-    if width == 0 {
-        return Ok(0);
+    let mut number = 0;
+    for n in 0..width {
+        let byte = byte_below(below, at + n as u64)?;
+        number += (byte as u64) << (8 * n);
     }
-    let low = byte_below(below, at)?;
-    let rest = number(below, at + 1, width - 1)?;
-    Ok(low as u64 + 256 * rest)
+    Ok(number)
 }
 
 // The entry of an address in a table of a level.
