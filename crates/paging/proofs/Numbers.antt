@@ -51,10 +51,6 @@ module _ (n low b : ℕ) (short : n < 8) (h : low < 2 ^ (8 * n)) (k : b < 256) w
 abbrev above : (low p : ℕ) → Result ℕ Fault → Result ℕ Fault
 above low p r = onward r (λ high. Ok (low + p * high))
 
-above_zero : (r : Result ℕ Fault) → r ≡ above 0 1 r
-above_zero (Ok n) = ap Ok (omega arith)
-above_zero (Err f) = refl
-
 above_more : (low b p : ℕ) (r : Result ℕ Fault) → above low p (onward r (λ n. Ok (b + 256 * n))) ≡ above (low + b * p) (256 * p) r
 above_more low b p (Ok n) = ap Ok (place low b p n)
 above_more low b p (Err f) = refl
@@ -68,9 +64,6 @@ module _ (m : Map) (at width : ℕ) where
     pub all : as_number (got m (span at width)) ≡ above low (2 ^ (8 * n)) (rest n)
     pub fits : low < 2 ^ (8 * n)
 
-  pub none_read : Read 0 0
-  none_read = record { all = let e : at + 0 ≡ at = omega arith in let q : width - 0 ≡ width = omega arith in rw (e, q) (above_zero (as_number (got m (span at width)))); fits = omega arith }
-
   rest_step : (n : ℕ) → n < width → rest n ≡ low_first (m (at + n)) (got m (span (at + (n + 1)) (width - (n + 1))))
   rest_step n h =
       let e : width - n ≡ suc (width - (n + 1)) = omega arith in
@@ -78,16 +71,8 @@ module _ (m : Map) (at width : ℕ) where
       rw (e, q) (number_suc (m (at + n)) (got m (span (suc (at + n)) (width - (n + 1)))))
 
   module _ (n low : ℕ) (h : n < width) (r : Read n low) where
-    pub missing : (f : Fault) → raised (m (at + n)) ≡ Err f → as_number (got m (span at width)) ≡ Err f
-    missing f e = r.all ∙ rw (rest_step n h, e) refl
-
     pub one_more : (b : ℕ) → b < 256 → width ≤ 8 → raised (m (at + n)) ≡ Ok b → Read (n + 1) (low + b * 2 ^ (8 * n) % 2 ^ 64)
     one_more b k short e = rw (placed n low b (omega arith) r.fits k) (record {
       all = r.all ∙ rw (rest_step n h, e, one_place n) (above_more low b (2 ^ (8 * n)) (rest (n + 1)));
       fits = more_fits n low b (omega arith) r.fits k;
     })
-
-  pub all_read : (n low : ℕ) → width ≤ n → Read n low → as_number (got m (span at width)) ≡ Ok low
-  all_read n low h r =
-      let e : width - n ≡ 0 = omega arith in
-      r.all ∙ rw e (ap Ok (omega arith))
