@@ -5,7 +5,7 @@ ghost use Rattle.paging.specs.Sounds.{four_sound};
 use crate::bits::{bit, bits, field};
 use crate::entry::Entry;
 use crate::scheme::Scheme;
-use crate::target::{page, table};
+use crate::target::{page, present, table};
 
 // Four levels of 8-byte entries, for addresses whose bits 63 to 47 are equal.
 #[derive(Clone, Copy)]
@@ -42,15 +42,12 @@ impl Scheme for FourLevel {
     }
 
     fn decode(level: u8, raw: u64) -> Option<Entry> {
-        if !bit(raw, 0) {
-            return None;
-        }
         let target = match level {
             1 => page(raw, 51, 12),
             2 if bit(raw, 7) => page(raw, 51, 21),
             3 if bit(raw, 7) => page(raw, 51, 30),
             _ => table(raw, 51),
         };
-        Some(Entry { target })
+        present(raw, target)
     }
 }

@@ -5,7 +5,7 @@ ghost use Rattle.paging.specs.Sounds.{two_sound};
 use crate::bits::{bit, bits, field};
 use crate::entry::Entry;
 use crate::scheme::Scheme;
-use crate::target::{page, table};
+use crate::target::{page, present, table};
 
 // Two levels of 4-byte entries, for addresses below 2^32.
 #[derive(Clone, Copy)]
@@ -41,14 +41,11 @@ impl Scheme for TwoLevel {
     }
 
     fn decode(level: u8, raw: u64) -> Option<Entry> {
-        if !bit(raw, 0) {
-            return None;
-        }
         let target = match level {
             1 => page(raw, 31, 12),
             2 if bit(raw, 7) => page(raw, 31, 22),
             _ => table(raw, 31),
         };
-        Some(Entry { target })
+        present(raw, target)
     }
 }
