@@ -92,10 +92,10 @@ module _ (p : Format) (m : Map) (cr3 a : ℕ) where
 
       page : (t : Translation) → r ≡ Ok t → Outcome → (reads : List ℕ) × (pg : Page) × Translates p m cr3 a reads pg × (t ≡ final pg a)
       page t q (inl c) = let s = there c.2 in (c.0, c.1, c.2, cc)
-      page t q (inr c) = let s = missing c.2 in let z : ◌≡◌ {A = ℕ} 0 1 = cc in absurd (omega arith)
+      page t q (inr c) = let s = missing c.2 in cc
 
       fault : (f : Fault) → r ≡ Err f → Outcome → (reads : List ℕ) × Fails p m cr3 a reads f
-      fault f q (inl c) = let s = there c.2 in let z : ◌≡◌ {A = ℕ} 0 1 = cc in absurd (omega arith)
+      fault f q (inl c) = let s = there c.2 in cc
       fault f q (inr c) = let s : c.1 ≡ f = (let t = missing c.2 in cc) in (c.0, rw (← s) c.2)
 
 -- A call that walks to a page translates.

@@ -6,7 +6,7 @@ use Rattle.spaces.proofs.Sequences.{onward, found_after}
 use Rattle.paging.specs.declared.entry.Page.{Page}
 use Rattle.paging.specs.declared.entry.Target.TheVariants.{Table, Leaf}
 use Rattle.paging.specs.declared.entry.Entry.{Entry}
-use Rattle.paging.specs.Formats.{Format, Placed, Sound}
+use Rattle.paging.specs.Formats.{Format, Sound}
 use Rattle.paging.specs.Paged.{lead, entry_of, descend, page_of}
 use Rattle.paging.specs.Entries.{entry_found}
 use Rattle.paging.proofs.Entries.{entry_walked, entry_means}
@@ -27,7 +27,7 @@ pub record Come (p : Format) (m : Map) (cr3 a l table : ℕ) : Type 0 where
   pub same : found a (page_of p cr3 a) m ≡ found a (descend p a l table) m
 
 -- and goes on by what it finds there
-module _ (p : Format) (sound : Sound p) (m : Map) (cr3 a l table : ℕ) (come : Come p m cr3 a l table) where
+module _ (p : Format) (m : Map) (cr3 a l table : ℕ) (come : Come p m cr3 a l table) where
   on : (r : Result Entry Fault) → r ≡ entry_found p m a l table → found a (page_of p cr3 a) m ≡ onward r (λ e. found a (lead e.target (descend p a (l - 1))) m)
   on r h = come.same ∙ rw (← h) at (descend_found p m a l table come.low)
 
@@ -35,10 +35,10 @@ module _ (p : Format) (sound : Sound p) (m : Map) (cr3 a l table : ℕ) (come : 
   missing f h = on (Err f) h
 
   module _ (e : Entry) (h : Ok e ≡ entry_found p m a l table) where
-    pub leaf : (pg : Page) → e.target ≡ Leaf pg → (found a (page_of p cr3 a) m ≡ Ok pg) × Placed pg
-    leaf pg s = (rw s at (on (Ok e) h), (rw s at (entry_means p sound m a l table come.low come.high e h)).0)
+    pub leaf : (pg : Page) → e.target ≡ Leaf pg → found a (page_of p cr3 a) m ≡ Ok pg
+    leaf pg s = rw s at (on (Ok e) h)
 
-    pub next : (t : ℕ) → e.target ≡ Table t → Come p m cr3 a (l - 1) t
-    next t s =
+    pub next : Sound p → (t : ℕ) → e.target ≡ Table t → Come p m cr3 a (l - 1) t
+    next sound t s =
         let leads : (t < 2 ^ 52) × (1 < l) = rw s at (entry_means p sound m a l table come.low come.high e h) in
         record { low = omega arith; high = omega (arith, come.high); near = leads.0; same = rw s at (on (Ok e) h) }

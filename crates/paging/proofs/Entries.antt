@@ -1,4 +1,4 @@
-use Rattle.std.proofs.Common.{◌≡◌, ℕ, zero, suc, ◌<◌, ◌≤◌, List, [], ◌∷◌, Some, None, Ok, Err, Option, Result, refl, ap, ◌∙◌, append-nil, arith}
+use Rattle.std.proofs.Common.{◌≡◌, ℕ, zero, suc, ◌<◌, ◌≤◌, List, [], ◌∷◌, Some, None, Ok, Err, Option, Result, refl, ap, ◌∙◌, append-nil}
 use Rattle.paging.specs.declared.cause.PagingCause.TheVariants.{Absent}
 use Rattle.spaces.specs.declared.fault.Fault.{Fault}
 use Rattle.paging.specs.Causes.{cause_number}
@@ -58,9 +58,9 @@ pub entry_means : (p : Format) → Sound p → (m : Map) (a l table : ℕ) → 0
 entry_means p sound m a l table z k e h = by (as_number (got m (entry_bytes p l table a))) h
   where
     present : (raw : ℕ) (o : Option Entry) → p.decoded l raw ≡ o → Ok e ≡ present_or a l o → Leading p l e.target
-    present raw None q h = let z : ◌≡◌ {A = ℕ} 0 1 = cc in absurd (omega arith)
+    present raw None q h = cc
     present raw (Some x) q h = let s : x ≡ e = cc in rw (← s) (rw q at (sound.entry l raw z k))
 
     by : (r : Result ℕ Fault) → Ok e ≡ decoded_or p a l r → Leading p l e.target
     by (Ok raw) h = present raw (p.decoded l raw) refl h
-    by (Err f) h = let z : ◌≡◌ {A = ℕ} 0 1 = cc in absurd (omega arith)
+    by (Err f) h = cc

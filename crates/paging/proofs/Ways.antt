@@ -28,7 +28,7 @@ all_read m (x ∷ xs) e = step (m x) e (all_read m xs)
   where
     step : (w : Answer) → (then_got w (got m xs)).fault ≡ None → ((got m xs).fault ≡ None → through m xs ≡ xs) → then_through w x (through m xs) ≡ x ∷ xs
     step (Ok b) e ih = ap (λ (ys : List ℕ). x ∷ ys) (ih e)
-    step (Err f) e ih = let z : ◌≡◌ {A = ℕ} 0 1 = cc in absurd (omega arith)
+    step (Err f) e ih = cc
 
 module _ (m : Map) (n at : ℕ) where
   holds_number : (e : ℕ) → Holds m n at e → as_number (got m (span at n)) ≡ Ok e

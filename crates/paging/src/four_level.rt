@@ -1,10 +1,11 @@
+ghost use Rattle.std.specs.Prelude.{refl};
 ghost use Rattle.paging.specs.Schemes.{four_level};
 ghost use Rattle.paging.specs.Sounds.{four_sound};
 
 use crate::bits::{bit, bits, field};
 use crate::entry::Entry;
-use crate::scheme::{Scheme, Shape};
-use crate::target::{page, table};
+use crate::scheme::Scheme;
+use crate::target::{page, present, table};
 
 // Four levels of 8-byte entries, for addresses whose bits 63 to 47 are equal.
 #[derive(Clone, Copy)]
@@ -17,14 +18,15 @@ impl Scheme for FourLevel {
 
     ghost format = { four_level };
 
-    ghost sound = { four_sound };
+    ghost LEVELS = { four_level.levels };
 
-    fn shape() -> Shape {
-        Shape {
-            levels: Self::LEVELS,
-            width: Self::WIDTH,
-        }
-    }
+    ghost WIDTH = { four_level.width };
+
+    ghost levels = { refl };
+
+    ghost width = { refl };
+
+    ghost sound = { four_sound };
 
     fn lawful(at: u64) -> bool {
         let top = field(at, 63, 47);
@@ -40,15 +42,12 @@ impl Scheme for FourLevel {
     }
 
     fn decode(level: u8, raw: u64) -> Option<Entry> {
-        if !bit(raw, 0) {
-            return None;
-        }
         let target = match level {
             1 => page(raw, 51, 12),
             2 if bit(raw, 7) => page(raw, 51, 21),
             3 if bit(raw, 7) => page(raw, 51, 30),
             _ => table(raw, 51),
         };
-        Some(Entry { target })
+        present(raw, target)
     }
 }

@@ -20,6 +20,6 @@ pub use four_level::FourLevel;
 pub use laws::{every_index_has_its_bits, every_trail_is_short, worked_examples};
 pub use layer::Paging;
 pub use pae::Pae;
-pub use scheme::{Scheme, Shape};
+pub use scheme::Scheme;
 pub use translation::Translation;
 pub use two_level::TwoLevel;

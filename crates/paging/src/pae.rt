@@ -1,10 +1,11 @@
+ghost use Rattle.std.specs.Prelude.{refl};
 ghost use Rattle.paging.specs.Schemes.{pae};
 ghost use Rattle.paging.specs.Sounds.{pae_sound};
 
 use crate::bits::{bit, bits, field};
 use crate::entry::Entry;
-use crate::scheme::{Scheme, Shape};
-use crate::target::{page, table};
+use crate::scheme::Scheme;
+use crate::target::{page, present, table};
 
 // PAE: three levels of 8-byte entries, for addresses below 2^32. The root table has four entries.
 #[derive(Clone, Copy)]
@@ -17,14 +18,15 @@ impl Scheme for Pae {
 
     ghost format = { pae };
 
-    ghost sound = { pae_sound };
+    ghost LEVELS = { pae.levels };
 
-    fn shape() -> Shape {
-        Shape {
-            levels: Self::LEVELS,
-            width: Self::WIDTH,
-        }
-    }
+    ghost WIDTH = { pae.width };
+
+    ghost levels = { refl };
+
+    ghost width = { refl };
+
+    ghost sound = { pae_sound };
 
     fn lawful(at: u64) -> bool {
         at < 1 << 32
@@ -39,14 +41,11 @@ impl Scheme for Pae {
     }
 
     fn decode(level: u8, raw: u64) -> Option<Entry> {
-        if !bit(raw, 0) {
-            return None;
-        }
         let target = match level {
             1 => page(raw, 51, 12),
             2 if bit(raw, 7) => page(raw, 51, 21),
             _ => table(raw, 51),
         };
-        Some(Entry { target })
+        present(raw, target)
     }
 }

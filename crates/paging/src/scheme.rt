@@ -1,14 +1,7 @@
-ghost use Rattle.std.specs.Prelude.{◌≡◌};
+ghost use Rattle.std.specs.Prelude.{◌≡◌, ℕ};
 ghost use Rattle.paging.specs.Formats.{Format, Sound};
 
 use crate::entry::Entry;
-
-// A scheme's number of levels, and how many bytes an entry has.
-#[derive(Clone, Copy)]
-pub struct Shape {
-    pub levels: u8,
-    pub width: u8,
-}
 
 // How a kind of paging leads an address to a page.
 pub trait Scheme {
@@ -19,9 +12,10 @@ pub trait Scheme {
 
     ghost format: { Format };
 
-    // The constants, for code that is generic over the scheme.
-    fn shape() -> Shape
-        ensures { result ≡ record { levels = format.levels; width = format.width } };
+    // The constants, for proofs.
+    ghost LEVELS: { ℕ };
+
+    ghost WIDTH: { ℕ };
 
     // Whether the scheme has such an address.
     fn lawful(at: u64) -> bool
@@ -38,6 +32,11 @@ pub trait Scheme {
     // What an entry of a level means, or nothing if it is not present.
     fn decode(level: u8, raw: u64) -> Option<Entry>
         ensures { result ≡ format.decoded level raw };
+
+    // The constants are the format's.
+    ghost levels: { LEVELS ≡ format.levels };
+
+    ghost width: { WIDTH ≡ format.width };
 
     ghost sound: { Sound format };
 }

@@ -1,10 +1,11 @@
+ghost use Rattle.std.specs.Prelude.{refl};
 ghost use Rattle.paging.specs.Schemes.{two_level};
 ghost use Rattle.paging.specs.Sounds.{two_sound};
 
 use crate::bits::{bit, bits, field};
 use crate::entry::Entry;
-use crate::scheme::{Scheme, Shape};
-use crate::target::{page, table};
+use crate::scheme::Scheme;
+use crate::target::{page, present, table};
 
 // Two levels of 4-byte entries, for addresses below 2^32.
 #[derive(Clone, Copy)]
@@ -17,14 +18,15 @@ impl Scheme for TwoLevel {
 
     ghost format = { two_level };
 
-    ghost sound = { two_sound };
+    ghost LEVELS = { two_level.levels };
 
-    fn shape() -> Shape {
-        Shape {
-            levels: Self::LEVELS,
-            width: Self::WIDTH,
-        }
-    }
+    ghost WIDTH = { two_level.width };
+
+    ghost levels = { refl };
+
+    ghost width = { refl };
+
+    ghost sound = { two_sound };
 
     fn lawful(at: u64) -> bool {
         at < 1 << 32
@@ -39,14 +41,11 @@ impl Scheme for TwoLevel {
     }
 
     fn decode(level: u8, raw: u64) -> Option<Entry> {
-        if !bit(raw, 0) {
-            return None;
-        }
         let target = match level {
             1 => page(raw, 31, 12),
             2 if bit(raw, 7) => page(raw, 31, 22),
             _ => table(raw, 31),
         };
-        Some(Entry { target })
+        present(raw, target)
     }
 }

@@ -22,15 +22,14 @@ pub(crate) fn byte_below<S: Space>(below: &S, at: u64) -> Result<u8, Fault>
 // The number in so many bytes below, the lowest read first.
 fn number<S: Space>(below: &S, at: u64, width: u8) -> Result<u64, Fault>
     requires { (width ≤ 8) × (at + width < 2 ^ 64) }
-    ensures is { result ≡ as_number (got (shown (S.Space.meaning below.now).pile) (span at width)) }
-    ensures bound { IfOk result (λ n. n < 2 ^ (8 * width)) }
+    ensures { result ≡ as_number (got (shown (S.Space.meaning below.now).pile) (span at width)) }
 {
-    if width == 0 {
-        return Ok(0);
+    let mut number = 0;
+    for n in 0..width {
+        let byte = byte_below(below, at + n as u64)?;
+        number += (byte as u64) << (8 * n);
     }
-    let low = byte_below(below, at)?;
-    let rest = number(below, at + 1, width - 1)?;
-    Ok(low as u64 + 256 * rest)
+    Ok(number)
 }
 
 // The entry of an address in a table of a level.
@@ -38,9 +37,8 @@ fn entry<P: Scheme, S: Space>(below: &S, table: u64, level: u8, at: u64) -> Resu
     requires { table < 2 ^ 52 }
     ensures { result ≡ entry_found P.Scheme.format (shown (S.Space.meaning below.now).pile) at level table }
 {
-    let width = P::shape().width;
-    let place = table + P::index(level, at) * width as u64;
-    let raw = number(below, place, width)?;
+    let place = table + P::index(level, at) * P::WIDTH as u64;
+    let raw = number(below, place, P::WIDTH)?;
     let Some(entry) = P::decode(level, raw) else {
         return Err(PagingCause::Absent(level).at(at));
     };
@@ -55,14 +53,13 @@ pub(crate) fn walk<P: Scheme, S: Space>(below: &S, cr3: u64, at: u64) -> Result<
     if !P::lawful(at) {
         return Err(PagingCause::Unlawful.at(at));
     }
-    let mut level = P::shape().levels;
     let mut table = P::root(cr3);
-    loop {
+    for level in (1..=P::LEVELS).rev() {
         let entry = entry::<P, S>(below, table, level, at)?;
         match entry.target {
             Target::Leaf(page) => return Ok(page),
             Target::Table(next) => table = next,
         }
-        level -= 1;
     }
+    unreachable!()
 }

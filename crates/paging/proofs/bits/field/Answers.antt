@@ -1,8 +1,6 @@
-use Rattle.std.proofs.Common.{◌≤◌, sym, arith, pow_mono}
+use Rattle.std.proofs.Common.{sym, arith, pow_mono}
 use Rattle.paging.specs.Fields.{field_none}
 use Rattle.paging.proofs.bits.field.Goals as goal
 
 pub returns-then-low-gt63 : goal.returns-then-low-gt63
-returns-then-low-gt63 c =
-    let h : 64 ≤ c.args.low = omega arith in
-    sym (field_none c.args.high c.args.low c.args.x (omega (arith, pow_mono {i = 64} h)))
+returns-then-low-gt63 c = sym (field_none c.args.high c.args.low c.args.x (omega (arith, pow_mono {i = 64} {j = c.args.low} (omega arith))))

@@ -2,8 +2,5 @@ use Rattle.spaces.specs.Piles.{shown}
 use Rattle.paging.proofs.Descents.{Come}
 use Rattle.paging.proofs.walk.walk.Given as goal
 
-abbrev pub invariant-loop-entry : goal.invariant-loop-entry
-invariant-loop-entry g l = Come g.P.Scheme.format (shown (g.S.Space.meaning l.below).pile) l.cr3 l.at l.level l.table
-
-abbrev pub decreases-loop-entry : goal.decreases-loop-entry
-decreases-loop-entry g l = l.level
+abbrev pub invariant-loop-level : goal.invariant-loop-level
+invariant-loop-level g l = Come g.P.Scheme.format (shown (g.S.Space.meaning l.below).pile) l.cr3 l.at l.level l.table
