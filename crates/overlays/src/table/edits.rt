@@ -1,11 +1,12 @@
-ghost use Rattle.std.specs.Prelude.{◌+◌, ◌≤◌, length};
+ghost use Rattle.std.specs.Prelude.{◌≡◌, ◌+◌, ◌^◌, ◌<◌, ◌≤◌, length, MatchResult};
+ghost use Rattle.spaces.specs.Patches.{replaced};
 ghost use Rattle.spaces.specs.Edits.{EditsPatches, setting, clearing};
 ghost use Rattle.spaces.specs.EditLaws.{EditLaws, ClearLaw};
-ghost use Rattle.overlays.specs.Tables.{held, Around, Replaces};
+ghost use Rattle.overlays.specs.Tables.{held, Replaces};
 
 use crate::table::PatchTable;
-use crate::table::places::splice;
-use spaces::Refusal;
+use arrayvec::{ArrayVec, CapacityError};
+use spaces::{Patch, Refusal};
 
 impl PatchTable {
     // Patches consecutive addresses, unless more than 256 would be patched.
@@ -25,14 +26,6 @@ impl PatchTable {
         self.replace(first, first as u128 + count as u128, &[])
     }
 
-    // The places at which the patches from first to before end begin and end.
-    fn around(&self, first: u64, end: u128) -> (usize, usize)
-        requires { first ≤ end }
-        ensures { Around (held self.now) first end result.0 result.1 }
-    {
-        (self.count_before(first as u128), self.count_before(end))
-    }
-
     // Puts a patch for each byte, from first on, in the place of the patches from there to before end.
     fn replace(&mut self, first: u64, end: u128, bytes: &[u8]) -> Result<(), Refusal>
         requires { first + length bytes.now ≤ end }
@@ -41,12 +34,28 @@ impl PatchTable {
         if end > 1 << 64 {
             return Err(Refusal::PastTheEnd);
         }
-        let (low, high) = self.around(first, end);
-        let kept = low + (self.count - high);
-        if bytes.len() > 256 - kept {
-            return Err(Refusal::TooManyPatches);
-        }
-        self.count = splice(&mut self.places, self.count, low, high, first, bytes);
+        *self = self
+            .replaced(first, end, bytes)
+            .map_err(|_| Refusal::TooManyPatches)?;
         Ok(())
+    }
+
+    // The table after that: the patches before first, one for each byte, and those from end on, if there is room for all.
+    fn replaced(&self, first: u64, end: u128, bytes: &[u8]) -> Result<Self, CapacityError>
+        requires fits { first + length bytes.now ≤ end }
+        requires ends { end ≤ 2 ^ 64 }
+        ensures { MatchResult result (λ next. held next ≡ replaced first end bytes.now (held self.now)) (λ _. 256 < length (replaced first end bytes.now (held self.now))) }
+    {
+        let mut patches = ArrayVec::new();
+        patches.try_extend_from_slice(self.parted(first as u128).0)?;
+        for (i, byte) in bytes.iter().enumerate() {
+            let patch = Patch {
+                address: first + i as u64,
+                byte: *byte,
+            };
+            patches.try_push(patch).map_err(CapacityError::simplify)?;
+        }
+        patches.try_extend_from_slice(self.parted(end).1)?;
+        Ok(PatchTable { patches })
     }
 }
