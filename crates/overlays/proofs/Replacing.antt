@@ -1,4 +1,4 @@
-use Rattle.std.proofs.Common.{◌≡◌, ℕ, zero, suc, ◌+◌, ◌<◌, List, [], ◌∷◌, ◌++◌, length, get_or, take, sym, refl, ap, ◌∙◌, append_assoc, add-one, arith}
+use Rattle.std.proofs.Common.{◌≡◌, ℕ, zero, suc, ◌+◌, ◌<◌, ◌≤◌, List, [], ◌∷◌, ◌++◌, length, get_or, take, sym, refl, ap, ◌∙◌, append_assoc, add-one, arith}
 use Rattle.std.proofs.lemmas.List.{length-append, length-take-le}
 use Rattle.spaces.specs.Patches.{Patches, before, from, laid, replaced}
 
@@ -23,5 +23,5 @@ module _ (ps : Patches) (first end : ℕ) (bytes : List ℕ) where
   length_replaced = simp length-append (omega (arith, length_laid first bytes))
 
   -- where there is no room for the patch of a byte, there are too many
-  pub no_room : (i : ℕ) → i < length bytes → length (before first ps ++ laid first (take i bytes)) ≡ 256 → 256 < length (replaced first end bytes ps)
+  pub no_room : (i : ℕ) → i < length bytes → 256 ≤ length (before first ps ++ laid first (take i bytes)) → 256 < length (replaced first end bytes ps)
   no_room i h e = omega (arith, length_replaced, simp length-append at e, length_laid first (take i bytes), length-take-le i bytes (omega arith))

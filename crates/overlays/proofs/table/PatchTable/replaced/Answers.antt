@@ -1,4 +1,4 @@
-use Rattle.std.proofs.Common.{◌≡◌, refl, ◌++◌, take_all, length, ap, ap₂, ◌∙◌, sym, append_assoc, arith}
+use Rattle.std.proofs.Common.{◌≡◌, refl, ◌≤◌, ◌++◌, take_all, length, ap, ap₂, ◌∙◌, append_assoc, arith}
 use Rattle.std.proofs.lemmas.Result.{err_from_is_err_and}
 use Rattle.spaces.specs.Patches.{Patches, ascends, before, laid, replaced}
 use Rattle.spaces.proofs.Ascents.{ascending_replaced}
@@ -9,8 +9,8 @@ use Rattle.overlays.proofs.table.PatchTable.replaced.Goals as goal
 pub returns-in_err-map_err : goal.returns-in_err-map_err
 returns-in_err-map_err c =
     let p = err_from_is_err_and c.from_residual-in_err-map_err.result c.from_residual-in_err-map_err.ensures.1 in
-    let full : length c.loop-i.patches.items ≡ 256 = grind arith in
-    rw p.1 (no_room (held c.args.self.now) c.args.first c.args.end c.args.bytes.now c.loop-i.i (omega arith) (ap length (sym c.loop-i.invariant) ∙ full))
+    let full : 256 ≤ length c.loop-i.patches.items = grind arith in
+    rw p.1 (no_room (held c.args.self.now) c.args.first c.args.end c.args.bytes.now c.loop-i.i (omega arith) (omega (arith, ap length c.loop-i.invariant)))
 
 pub loop-i-preserved : goal.loop-i-preserved
 loop-i-preserved c =
