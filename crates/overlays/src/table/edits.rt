@@ -46,16 +46,17 @@ impl PatchTable {
         requires ends { end ≤ 2 ^ 64 }
         ensures { MatchResult result (λ next. held next ≡ replaced first end bytes.now (held self.now)) (λ _. 256 < length (replaced first end bytes.now (held self.now))) }
     {
+        let (before, _) = self.parted(first as u128);
+        let (_, behind) = self.parted(end);
         let mut patches = ArrayVec::new();
-        patches.try_extend_from_slice(self.parted(first as u128).0)?;
-        for (i, byte) in bytes.iter().enumerate() {
-            let patch = Patch {
-                address: first + i as u64,
-                byte: *byte,
-            };
-            patches.try_push(patch).map_err(CapacityError::simplify)?;
+        patches.try_extend_from_slice(before)?;
+        for (i, &byte) in bytes.iter().enumerate() {
+            let address = first + i as u64;
+            patches
+                .try_push(Patch { address, byte })
+                .map_err(CapacityError::simplify)?;
         }
-        patches.try_extend_from_slice(self.parted(end).1)?;
+        patches.try_extend_from_slice(behind)?;
         Ok(PatchTable { patches })
     }
 }

@@ -27,7 +27,8 @@ impl PatchTable {
     pub fn lookup(&self, at: u64) -> Option<u8>
         ensures { result ≡ lookup (held self.now) at }
     {
-        let patch = self.parted(at as u128).1.first()?;
+        let (_, from) = self.parted(at as u128);
+        let patch = from.first()?;
         (patch.address == at).then_some(patch.byte)
     }
 
