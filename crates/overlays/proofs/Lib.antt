@@ -1,4 +1,2 @@
-pub mod Searching
+pub mod Parting
 pub mod Replacing
-pub mod Laying
-pub mod Splicing

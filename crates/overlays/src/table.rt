@@ -1,18 +1,14 @@
-ghost use Rattle.std.specs.Prelude.{◌≡◌, ◌≤◌, length, take};
-ghost use Rattle.spaces.specs.Patches.{Ascending};
+ghost use Rattle.spaces.specs.Patches.{LawfulPatches};
 
+use arrayvec::ArrayVec;
 use spaces::Patch;
 
 mod edits;
-mod places;
 mod reads;
 
 // At most 256 patches in memory of their own, in the order of their addresses.
 #[derive(Drop)]
 pub struct PatchTable {
-    places: [Patch; 256],
-    count: usize,
-    ghost whole: { length places ≡ 256 },
-    ghost few: { count ≤ 256 },
-    ghost ascending: { Ascending 0 (take count places) },
+    patches: ArrayVec<Patch, 256>,
+    ghost lawful: { LawfulPatches patches.items },
 }

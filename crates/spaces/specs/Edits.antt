@@ -18,9 +18,13 @@ abbrev pub count_of : Edit → ℕ
 count_of (setting first bytes) = length bytes
 count_of (clearing first count) = count
 
+-- the bytes that it leaves as patches
+abbrev pub bytes_of : Edit → List ℕ
+bytes_of (setting first bytes) = bytes
+bytes_of (clearing first count) = []
+
 abbrev pub edit : Edit → Patches → Patches
-edit (setting first bytes) ps = replaced first (first + length bytes) bytes ps
-edit (clearing first count) ps = replaced first (first + count) [] ps
+edit e ps = replaced (first_of e) (first_of e + count_of e) (bytes_of e) ps
 
 -- the patches of what stands at a depth: none unless it is an overlay
 abbrev pub patches_of : Layer → Option Patches

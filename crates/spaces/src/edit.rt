@@ -1,5 +1,5 @@
 ghost use Rattle.std.specs.Prelude.{◌≡◌, ◌+◌};
-ghost use Rattle.spaces.specs.Edits.{first_of, count_of};
+ghost use Rattle.spaces.specs.Edits.{first_of, count_of, bytes_of};
 ghost use Rattle.spaces.specs.Meant.{meant};
 
 // A change of one overlay.
@@ -11,7 +11,15 @@ pub enum Edit<'a> {
     Clear { first: u64, count: u64 },
 }
 
-impl Edit<'_> {
+impl<'a> Edit<'a> {
+    pub fn first(self) -> u64
+        ensures { result ≡ first_of (meant self.entry) }
+    {
+        match self {
+            Edit::Set { first, bytes: _ } | Edit::Clear { first, count: _ } => first,
+        }
+    }
+
     // The address behind its last one.
     pub fn end(self) -> u128
         ensures { result ≡ first_of (meant self.entry) + count_of (meant self.entry) }
@@ -19,6 +27,16 @@ impl Edit<'_> {
         match self {
             Edit::Set { first, bytes } => first as u128 + bytes.len() as u128,
             Edit::Clear { first, count } => first as u128 + count as u128,
+        }
+    }
+
+    // The bytes that it leaves as patches: none where it takes patches back.
+    pub fn bytes(self) -> &'a [u8]
+        ensures { result.now ≡ bytes_of (meant self.entry) }
+    {
+        match self {
+            Edit::Set { first: _, bytes } => bytes,
+            Edit::Clear { .. } => &[],
         }
     }
 }

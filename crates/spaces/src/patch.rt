@@ -1,5 +1,5 @@
 // A byte that stands at an address in the place of the one below.
-#[derive(Clone, Copy, Debug, PartialEq, Eq)]
+#[derive(Clone, Copy, Debug, Default, PartialEq, Eq)]
 pub struct Patch {
     pub address: u64,
     pub byte: u8,

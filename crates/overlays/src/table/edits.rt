@@ -1,12 +1,13 @@
-ghost use Rattle.std.specs.Prelude.{◌+◌, ◌≤◌, length};
+ghost use Rattle.std.specs.Prelude.{◌≡◌, ◌+◌, ◌^◌, ◌<◌, ◌≤◌, length, MatchResult};
+ghost use Rattle.spaces.specs.Patches.{replaced};
 ghost use Rattle.spaces.specs.Edits.{EditsPatches, setting, clearing};
 ghost use Rattle.spaces.specs.Meant.{meant};
 ghost use Rattle.spaces.specs.EditLaws.{EditLaws, ClearLaw};
-ghost use Rattle.overlays.specs.Tables.{held, Around, Replaces};
+ghost use Rattle.overlays.specs.Tables.{held};
 
 use crate::table::PatchTable;
-use crate::table::places::splice;
-use spaces::{Edit, Refusal};
+use arrayvec::{ArrayVec, CapacityError};
+use spaces::{Edit, Patch, Refusal};
 
 impl PatchTable {
     // Patches consecutive addresses, unless more than 256 would be patched.
@@ -14,7 +15,7 @@ impl PatchTable {
         ensures edits { EditsPatches (held self.old) (held self.new) (setting first bytes.now) result }
         ensures laws { EditLaws (setting first bytes.now) (held self.old) (held self.new) result }
     {
-        self.replace(first, first as u128 + bytes.len() as u128, bytes)
+        self.edit(Edit::Set { first, bytes })
     }
 
     // Takes back the patches among some addresses.
@@ -23,41 +24,40 @@ impl PatchTable {
         ensures laws { EditLaws (clearing first count) (held self.old) (held self.new) result }
         ensures fits { ClearLaw first count result }
     {
-        self.replace(first, first as u128 + count as u128, &[])
+        self.edit(Edit::Clear { first, count })
     }
 
-    // The same, by the edit.
-    pub(crate) fn edit(&mut self, edit: Edit<'_>) -> Result<(), Refusal>
-        ensures { EditsPatches (held self.old) (held self.new) (meant edit.entry) result }
+    // Makes either edit, unless more than 256 addresses would be patched.
+    pub fn edit(&mut self, edit: Edit<'_>) -> Result<(), Refusal>
+        ensures edits { EditsPatches (held self.old) (held self.new) (meant edit.entry) result }
+        ensures laws { EditLaws (meant edit.entry) (held self.old) (held self.new) result }
     {
-        match edit {
-            Edit::Set { first, bytes } => self.set(first, bytes),
-            Edit::Clear { first, count } => self.clear(first, count),
-        }
-    }
-
-    // The places at which the patches from first to before end begin and end.
-    fn around(&self, first: u64, end: u128) -> (usize, usize)
-        requires { first ≤ end }
-        ensures { Around (held self.now) first end result.0 result.1 }
-    {
-        (self.count_before(first as u128), self.count_before(end))
-    }
-
-    // Puts a patch for each byte, from first on, in the place of the patches from there to before end.
-    fn replace(&mut self, first: u64, end: u128, bytes: &[u8]) -> Result<(), Refusal>
-        requires { first + length bytes.now ≤ end }
-        ensures { Replaces (held self.old) (held self.new) first end bytes.now result }
-    {
-        if end > 1 << 64 {
+        if edit.end() > 1 << 64 {
             return Err(Refusal::PastTheEnd);
         }
-        let (low, high) = self.around(first, end);
-        let kept = low + (self.count - high);
-        if bytes.len() > 256 - kept {
-            return Err(Refusal::TooManyPatches);
-        }
-        self.count = splice(&mut self.places, self.count, low, high, first, bytes);
+        *self = self
+            .replaced(edit.first(), edit.end(), edit.bytes())
+            .map_err(|_| Refusal::TooManyPatches)?;
         Ok(())
+    }
+
+    // The patches before first, one for each byte from there on, and the patches from end on, if there is room for all.
+    fn replaced(&self, first: u64, end: u128, bytes: &[u8]) -> Result<Self, CapacityError>
+        requires fits { first + length bytes.now ≤ end }
+        requires ends { end ≤ 2 ^ 64 }
+        ensures { MatchResult result (λ next. held next ≡ replaced first end bytes.now (held self.now)) (λ _. 256 < length (replaced first end bytes.now (held self.now))) }
+    {
+        let (before, _) = self.parted(first as u128);
+        let (_, behind) = self.parted(end);
+        let mut patches = ArrayVec::new();
+        patches.try_extend_from_slice(before)?;
+        for (i, &byte) in bytes.iter().enumerate() {
+            let address = first + i as u64;
+            patches
+                .try_push(Patch { address, byte })
+                .map_err(CapacityError::simplify)?;
+        }
+        patches.try_extend_from_slice(behind)?;
+        Ok(PatchTable { patches })
     }
 }

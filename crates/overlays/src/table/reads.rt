@@ -1,21 +1,17 @@
 ghost use Rattle.std.specs.Prelude.{◌≡◌, ◌≤◌, [], length};
-ghost use Rattle.spaces.specs.Patches.{lookup, before};
+ghost use Rattle.spaces.specs.Patches.{lookup, before, from};
 ghost use Rattle.overlays.specs.Tables.{held};
 
 use crate::table::PatchTable;
+use arrayvec::ArrayVec;
 use spaces::Patch;
 
 impl PatchTable {
     pub fn new() -> Self
         ensures { held result ≡ [] }
     {
-        let blank = Patch {
-            address: 0,
-            byte: 0,
-        };
         PatchTable {
-            places: [blank; 256],
-            count: 0,
+            patches: ArrayVec::new(),
         }
     }
 
@@ -24,34 +20,24 @@ impl PatchTable {
         ensures count { result ≡ length (held self.now) }
         ensures few { result ≤ 256 }
     {
-        self.count
+        self.patches.len()
     }
 
-    // The patch byte of an address.
+    // The patch byte of an address: the first patch from there on has it, or none.
     pub fn lookup(&self, at: u64) -> Option<u8>
         ensures { result ≡ lookup (held self.now) at }
     {
-        let i = self.count_before(at as u128);
-        if i < self.count && self.places[i].address == at {
-            return Some(self.places[i].byte);
-        }
-        None
+        let (_, from) = self.parted(at as u128);
+        let patch = from.first()?;
+        (patch.address == at).then_some(patch.byte)
     }
 
-    // How many patches lie before an address. The half that cannot have the answer is dropped at each turn.
-    pub(super) fn count_before(&self, end: u128) -> usize
-        ensures { result ≡ length (before end (held self.now)) }
+    // The patches before an address, and those from it on.
+    pub(super) fn parted(&self, at: u128) -> (&[Patch], &[Patch])
+        ensures before { result.0.now ≡ before at (held self.now) }
+        ensures from { result.1.now ≡ from at (held self.now) }
     {
-        let mut low = 0;
-        let mut high = self.count;
-        while low < high {
-            let mid = low + (high - low) / 2;
-            if (self.places[mid].address as u128) < end {
-                low = mid + 1;
-            } else {
-                high = mid;
-            }
-        }
-        low
+        let patches = self.patches.as_slice();
+        patches.split_at(patches.partition_point(|patch| (patch.address as u128) < at))
     }
 }

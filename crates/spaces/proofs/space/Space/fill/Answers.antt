@@ -7,4 +7,3 @@ pub loop-n-preserved : goal.loop-n-preserved
 loop-n-preserved g c =
     filled_more _ _ _ _ _ c.loop-n.invariant _ (omega (arith, c.in-Some.ensures))
     (ap (shown (g.Self.Space.meaning c.args.self.now).pile) (sym c.in-Some.ensures.1) ∙ sym c.byte.ensures ∙ c.in-Ok.is)
-
