@@ -4,6 +4,10 @@ ghost use Rattle.extents.specs.Tables.{held, empty, Pushed, first_containing, Fi
 
 use crate::extent::{Extent, contains, overlap};
 
+// Why an extent is not added: its table has no room for it.
+#[derive(Clone, Copy, Debug, PartialEq, Eq)]
+pub struct Full;
+
 // Extents in the caller's memory: the first `count` entries of a slice.
 #[derive(Drop)]
 pub struct Table<'a, E> {
@@ -26,24 +30,23 @@ impl<'a, E: Extent + Copy> Table<'a, E> {
         self.count = 0;
     }
 
-    // Adds an extent at the end. Answers false, and changes nothing, where the slice is full.
-    pub fn push(&mut self, extent: E) -> bool
+    // Adds an extent at the end. It is refused, and nothing changes, where the slice is full.
+    pub fn push(&mut self, extent: E) -> Result<(), Full>
         ensures { Pushed self.old self.new extent result }
     {
         if self.count >= self.entries.len() {
-            return false;
+            return Err(Full);
         }
         self.entries[self.count] = extent;
         self.count += 1;
-        true
+        Ok(())
     }
 
     // The extents that it holds. That `count` stays within the slice is not known here: hence the smaller of the two.
     fn held(&self) -> &[E]
         ensures { result.now ≡ held self.now }
     {
-        let end = self.count.min(self.entries.len());
-        &self.entries[0..end]
+        &self.entries[..self.count.min(self.entries.len())]
     }
 
     // How many it holds.
@@ -57,8 +60,7 @@ impl<'a, E: Extent + Copy> Table<'a, E> {
     pub fn get(&self, i: usize) -> Option<E>
         ensures { result ≡ slice_get (held self.now) i }
     {
-        let held = self.held();
-        if i < held.len() { Some(held[i]) } else { None }
+        self.held().get(i).copied()
     }
 
     // The first that contains the address.
@@ -66,12 +68,10 @@ impl<'a, E: Extent + Copy> Table<'a, E> {
         ensures answer { result ≡ first_containing E.Extent.bounds (held self.now) at }
         ensures means { Finds E.Extent.bounds (held self.now) at result }
     {
-        for extent in self.held() {
-            if contains(extent, at) {
-                return Some(*extent);
-            }
-        }
-        None
+        self.held()
+            .iter()
+            .copied()
+            .find(|extent| contains(extent, at))
     }
 
     // Whether one that it holds overlaps the extent, which may be of another kind.
@@ -79,11 +79,6 @@ impl<'a, E: Extent + Copy> Table<'a, E> {
         ensures answer { result ≡ overlaps_any E.Extent.bounds (held self.now) (X.Extent.bounds extent.now) }
         ensures means { Decides result (OverlapAny E.Extent.bounds (held self.now) (X.Extent.bounds extent.now)) }
     {
-        for own in self.held() {
-            if overlap(own, extent) {
-                return true;
-            }
-        }
-        false
+        self.held().iter().any(|own| overlap(own, extent))
     }
 }

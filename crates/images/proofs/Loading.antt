@@ -1,9 +1,10 @@
-use Rattle.std.proofs.Common.{◌≡◌, ℕ, zero, suc, ◌-◌, ◌<◌, ◌≤◌, min, true, false, ◌⊎◌, List, [], ◌∷◌, ◌++◌, length, None, Ok, Err, Result, sym, refl, ap, ◌∙◌, subst, inl, inr, arith, length-append}
-use Rattle.std.proofs.lemmas.Bool.{le-leb, lt-leb, le-ltb, ltb-true, ltb-false, cases_lt}
+use Rattle.std.proofs.Common.{◌≡◌, ℕ, zero, suc, ◌-◌, ◌<◌, ◌≤◌, min, ◌⊎◌, List, [], ◌∷◌, ◌++◌, length, None, Ok, Err, Result, sym, refl, ap, ◌∙◌, subst, inl, inr, arith, length-append}
+use Rattle.std.proofs.lemmas.Bool.{le-leb, lt-leb, le-ltb, cases_lt}
+use Rattle.std.proofs.lemmas.Bool.Decides.{nat_tests}
 use Rattle.spaces.specs.declared.refusal.Refusal.{Refusal}
 use Rattle.spaces.specs.declared.refusal.Refusal.TheVariants.{TableFull}
 use Rattle.extents.specs.declared.table.Table.{Table}
-use Rattle.extents.specs.Tables.{held, room, empty, pushed, Pushed}
+use Rattle.extents.specs.Tables.{held, room, full, empty, pushed, Pushed}
 use Rattle.images.specs.declared.range.LimeRange.{LimeRange}
 use Rattle.images.specs.Loads.{Load, Loads, filled_with, answer}
 use Rattle.images.specs.Lime.{end_of, next_range, stopped, go_on, at_place, lime_from, lime}
@@ -78,17 +79,17 @@ module _ (file : List ℕ) (t u : Table LimeRange) (place : ℕ) (s : Underway f
   as_many : u.count ≡ length s.before
   as_many = ap (λ (v : Table LimeRange). v.count) s.table
 
-  pub loads_to_full : (r : LimeRange) (v : Table LimeRange) → place < length file → next_range file place (held u) ≡ Ok r → Pushed u v r false
+  pub loads_to_full : (r : LimeRange) (v : Table LimeRange) → place < length file → next_range file place (held u) ≡ Ok r → Pushed u v r (Err full)
       → Loads (lime (room t) file) t v (Err (record { refusal = TableFull; place = place; written = length (held v) }))
   loads_to_full r v h e p =
-      let full : room u ≤ length (held u) = ltb-false (length (held u)) (room u) (sym p.answer) in
+      let full : room u ≤ length (held u) = grind (arith, nat_tests, p.answer) in
       let left : room t - length s.before ≡ 0 = omega (arith, ap length holds, as_large) in
       let kept : v ≡ u = p.after ∙ rw (le-ltb u.count (room u) (omega (arith, ap length holds, as_many))) in
       rw kept (ends (stopped s.before TableFull place) (s.same ∙ at_full file place s.before h _ r left (next_is (Ok r) e)) refl)
 
-  pub underway_more : (r : LimeRange) (v : Table LimeRange) → place < length file → next_range file place (held u) ≡ Ok r → Pushed u v r true → Underway file t v (min (end_of r) (length file))
+  pub underway_more : (r : LimeRange) (v : Table LimeRange) → place < length file → next_range file place (held u) ≡ Ok r → Pushed u v r (Ok tt) → Underway file t v (min (end_of r) (length file))
   underway_more r v h e p =
-      let some : length (held u) < room u = ltb-true (length (held u)) (room u) (sym p.answer) in
+      let some : length (held u) < room u = grind (arith, nat_tests, p.answer) in
       let free : length s.before < room t = omega (arith, ap length holds, as_large) in
       let long : length (s.before ++ (r ∷ [])) ≡ suc (length s.before) = simp length-append (omega arith) in
       record {
