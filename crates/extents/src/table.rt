@@ -1,6 +1,4 @@
-ghost use Rattle.std.specs.Prelude.{◌≡◌, length, Decides};
-ghost use Rattle.std.specs.List.{slice_get};
-ghost use Rattle.extents.specs.Tables.{held, empty, Pushed, first_containing, Finds, overlaps_any, OverlapAny};
+ghost use Rattle.std.specs.Prelude.{◌≡◌, ◌≤◌, length, Decides};
 
 use crate::extent::{Extent, contains, overlap};
 
@@ -13,19 +11,23 @@ pub struct Full;
 pub struct Table<'a, E> {
     entries: &'a mut [E],
     count: usize,
+    ghost fits: { count ≤ length entries.now },
 }
 
 impl<'a, E: Extent + Copy> Table<'a, E> {
+    ghost use Rattle.std.specs.List.{slice_get};
+    ghost use Rattle.extents.specs.Tables.{held, IsTable, Pushed, first_containing, Finds, overlaps_any, OverlapAny};
+
     // A table over the slice that holds nothing.
     pub fn new(entries: &'a mut [E]) -> Self
-        ensures { result ≡ empty entries.entry }
+        ensures { IsTable result entries.entry 0 }
     {
         Table { entries, count: 0 }
     }
 
     // Lets go of all that it holds. No entry is written.
     pub fn clear(&mut self)
-        ensures { self.new ≡ empty self.old.entries }
+        ensures { IsTable self.new self.old.entries 0 }
     {
         self.count = 0;
     }
@@ -34,7 +36,7 @@ impl<'a, E: Extent + Copy> Table<'a, E> {
     pub fn push(&mut self, extent: E) -> Result<(), Full>
         ensures { Pushed self.old self.new extent result }
     {
-        if self.count >= self.entries.len() {
+        if self.count == self.entries.len() {
             return Err(Full);
         }
         self.entries[self.count] = extent;
@@ -42,11 +44,11 @@ impl<'a, E: Extent + Copy> Table<'a, E> {
         Ok(())
     }
 
-    // The extents that it holds. That `count` stays within the slice is not known here: hence the smaller of the two.
+    // The extents that it holds.
     fn held(&self) -> &[E]
         ensures { result.now ≡ held self.now }
     {
-        &self.entries[..self.count.min(self.entries.len())]
+        &self.entries[..self.count]
     }
 
     // How many it holds.
