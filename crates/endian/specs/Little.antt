@@ -5,6 +5,10 @@ abbrev pub little_endian : List ℕ → ℕ
 little_endian [] = 0
 little_endian (b ∷ bs) = b + 256 * little_endian bs
 
+-- so many bytes from a place on, or none if the bytes end before that
+abbrev pub bytes_in : List ℕ → ℕ → ℕ → Option (List ℕ)
+bytes_in bytes place width = cond (nat_le (place + width) (length bytes)) (Some (take width (drop place bytes))) None
+
 -- the number in so many bytes from a place on
 abbrev pub number_at : List ℕ → ℕ → ℕ → ℕ
 number_at bytes place width = little_endian (take width (drop place bytes))

@@ -5,4 +5,4 @@ mod extent;
 mod table;
 
 pub use extent::{Extent, Stored, contains, overlap};
-pub use table::Table;
+pub use table::{Full, Table};

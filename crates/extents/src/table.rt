@@ -1,49 +1,54 @@
-ghost use Rattle.std.specs.Prelude.{◌≡◌, length, Decides};
-ghost use Rattle.std.specs.List.{slice_get};
-ghost use Rattle.extents.specs.Tables.{held, empty, Pushed, first_containing, Finds, overlaps_any, OverlapAny};
+ghost use Rattle.std.specs.Prelude.{◌≡◌, ◌≤◌, length, Decides};
 
 use crate::extent::{Extent, contains, overlap};
+
+// Why an extent is not added: its table has no room for it.
+#[derive(Clone, Copy, Debug, PartialEq, Eq)]
+pub struct Full;
 
 // Extents in the caller's memory: the first `count` entries of a slice.
 #[derive(Drop)]
 pub struct Table<'a, E> {
     entries: &'a mut [E],
     count: usize,
+    ghost fits: { count ≤ length entries.now },
 }
 
 impl<'a, E: Extent + Copy> Table<'a, E> {
+    ghost use Rattle.std.specs.List.{slice_get};
+    ghost use Rattle.extents.specs.Tables.{held, IsTable, Pushed, first_containing, Finds, overlaps_any, OverlapAny};
+
     // A table over the slice that holds nothing.
     pub fn new(entries: &'a mut [E]) -> Self
-        ensures { result ≡ empty entries.entry }
+        ensures { IsTable result entries.entry 0 }
     {
         Table { entries, count: 0 }
     }
 
     // Lets go of all that it holds. No entry is written.
     pub fn clear(&mut self)
-        ensures { self.new ≡ empty self.old.entries }
+        ensures { IsTable self.new self.old.entries 0 }
     {
         self.count = 0;
     }
 
-    // Adds an extent at the end. Answers false, and changes nothing, where the slice is full.
-    pub fn push(&mut self, extent: E) -> bool
+    // Adds an extent at the end. It is refused, and nothing changes, where the slice is full.
+    pub fn push(&mut self, extent: E) -> Result<(), Full>
         ensures { Pushed self.old self.new extent result }
     {
-        if self.count >= self.entries.len() {
-            return false;
+        if self.count == self.entries.len() {
+            return Err(Full);
         }
         self.entries[self.count] = extent;
         self.count += 1;
-        true
+        Ok(())
     }
 
-    // The extents that it holds. That `count` stays within the slice is not known here: hence the smaller of the two.
+    // The extents that it holds.
     fn held(&self) -> &[E]
         ensures { result.now ≡ held self.now }
     {
-        let end = self.count.min(self.entries.len());
-        &self.entries[0..end]
+        &self.entries[..self.count]
     }
 
     // How many it holds.
@@ -57,8 +62,7 @@ impl<'a, E: Extent + Copy> Table<'a, E> {
     pub fn get(&self, i: usize) -> Option<E>
         ensures { result ≡ slice_get (held self.now) i }
     {
-        let held = self.held();
-        if i < held.len() { Some(held[i]) } else { None }
+        self.held().get(i).copied()
     }
 
     // The first that contains the address.
@@ -66,12 +70,10 @@ impl<'a, E: Extent + Copy> Table<'a, E> {
         ensures answer { result ≡ first_containing E.Extent.bounds (held self.now) at }
         ensures means { Finds E.Extent.bounds (held self.now) at result }
     {
-        for extent in self.held() {
-            if contains(extent, at) {
-                return Some(*extent);
-            }
-        }
-        None
+        self.held()
+            .iter()
+            .copied()
+            .find(|extent| contains(extent, at))
     }
 
     // Whether one that it holds overlaps the extent, which may be of another kind.
@@ -79,11 +81,6 @@ impl<'a, E: Extent + Copy> Table<'a, E> {
         ensures answer { result ≡ overlaps_any E.Extent.bounds (held self.now) (X.Extent.bounds extent.now) }
         ensures means { Decides result (OverlapAny E.Extent.bounds (held self.now) (X.Extent.bounds extent.now)) }
     {
-        for own in self.held() {
-            if overlap(own, extent) {
-                return true;
-            }
-        }
-        false
+        self.held().iter().any(|own| overlap(own, extent))
     }
 }

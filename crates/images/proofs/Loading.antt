@@ -1,11 +1,12 @@
-use Rattle.std.proofs.Common.{◌≡◌, ℕ, zero, suc, ◌-◌, ◌<◌, ◌≤◌, min, true, false, ◌⊎◌, List, [], ◌∷◌, ◌++◌, length, None, Ok, Err, Result, sym, refl, ap, ◌∙◌, subst, inl, inr, arith, length-append}
-use Rattle.std.proofs.lemmas.Bool.{le-leb, lt-leb, le-ltb, ltb-true, ltb-false, cases_lt}
+use Rattle.std.proofs.Common.{◌≡◌, ℕ, zero, suc, ◌-◌, ◌<◌, ◌≤◌, min, ◌⊎◌, List, [], ◌∷◌, ◌++◌, length, None, Ok, Err, Result, sym, refl, ap, ◌∙◌, subst, inl, inr, arith, length-append}
+use Rattle.std.proofs.lemmas.Bool.{le-leb, lt-leb, cases_lt}
+use Rattle.std.proofs.lemmas.Bool.Decides.{nat_tests}
 use Rattle.spaces.specs.declared.refusal.Refusal.{Refusal}
 use Rattle.spaces.specs.declared.refusal.Refusal.TheVariants.{TableFull}
 use Rattle.extents.specs.declared.table.Table.{Table}
-use Rattle.extents.specs.Tables.{held, room, empty, pushed, Pushed}
+use Rattle.extents.specs.Tables.{held, room, full, IsTable, Pushed}
 use Rattle.images.specs.declared.range.LimeRange.{LimeRange}
-use Rattle.images.specs.Loads.{Load, Loads, filled_with, answer}
+use Rattle.images.specs.Loads.{Load, Loads, Filled, answer}
 use Rattle.images.specs.Lime.{end_of, next_range, stopped, go_on, at_place, lime_from, lime}
 use Rattle.images.proofs.Tables.{filled_held, filled_room, filled_pushed}
 
@@ -46,18 +47,18 @@ module _ (file : List ℕ) where
 pub record Underway (file : List ℕ) (t u : Table LimeRange) (place : ℕ) : Type 0 where
   pub before : List LimeRange
   pub few : length before ≤ room t
-  pub table : u ≡ filled_with before t
+  pub table : Filled before t u
   pub same : lime (room t) file ≡ lime_from (room t - length before) file place before
 
-pub underway_none : (file : List ℕ) (t : Table LimeRange) → Underway file t (empty t.entries) 0
-underway_none file t = record { before = []; few = omega arith; table = refl; same = ap (λ (n : ℕ). lime_from n file 0 []) (omega arith) }
+pub underway_none : (file : List ℕ) (t u : Table LimeRange) → IsTable u t.entries 0 → Underway file t u 0
+underway_none file t u e = record { before = []; few = omega arith; table = e; same = ap (λ (n : ℕ). lime_from n file 0 []) (omega arith) }
 
 module _ (file : List ℕ) (t u : Table LimeRange) (place : ℕ) (s : Underway file t u place) where
   holds : held u ≡ s.before
-  holds = ap held s.table ∙ filled_held t s.before
+  holds = filled_held t s.before u s.table
 
   as_large : room u ≡ room t
-  as_large = ap room s.table ∙ filled_room t s.before s.few
+  as_large = filled_room t s.before u s.table s.few
 
   next_is : (w : Result LimeRange Refusal) → next_range file place (held u) ≡ w → next_range file place s.before ≡ w
   next_is w e = ap (next_range file place) (sym holds) ∙ e
@@ -65,7 +66,7 @@ module _ (file : List ℕ) (t u : Table LimeRange) (place : ℕ) (s : Underway f
   ends : (load : Load LimeRange) → lime (room t) file ≡ load → load.extents ≡ s.before → Loads (lime (room t) file) t u (answer load.refused (length (held u)))
   ends load e same = record {
     answers = rw (e, same, holds);
-    table = s.table ∙ ap (λ (es : List LimeRange). filled_with es t) (sym same ∙ ap (λ (l : Load LimeRange). l.extents) (sym e));
+    table = subst (λ (es : List LimeRange). Filled es t u) (sym same ∙ ap (λ (l : Load LimeRange). l.extents) (sym e)) s.table;
   }
 
   pub loads_all : length file ≤ place → Loads (lime (room t) file) t u (Ok (length (held u)))
@@ -75,31 +76,30 @@ module _ (file : List ℕ) (t u : Table LimeRange) (place : ℕ) (s : Underway f
       → Loads (lime (room t) file) t u (Err (record { refusal = refusal; place = place; written = length (held u) }))
   loads_to_refusal refusal h e = ends (stopped s.before refusal place) (s.same ∙ at_refused file place s.before h _ refusal (next_is (Err refusal) e)) refl
 
-  as_many : u.count ≡ length s.before
-  as_many = ap (λ (v : Table LimeRange). v.count) s.table
-
-  pub loads_to_full : (r : LimeRange) (v : Table LimeRange) → place < length file → next_range file place (held u) ≡ Ok r → Pushed u v r false
+  pub loads_to_full : (r : LimeRange) (v : Table LimeRange) → place < length file → next_range file place (held u) ≡ Ok r → Pushed u v r (Err full)
       → Loads (lime (room t) file) t v (Err (record { refusal = TableFull; place = place; written = length (held v) }))
   loads_to_full r v h e p =
-      let full : room u ≤ length (held u) = ltb-false (length (held u)) (room u) (sym p.answer) in
+      let full : room u ≤ length (held u) = grind (arith, nat_tests, p.answer) in
       let left : room t - length s.before ≡ 0 = omega (arith, ap length holds, as_large) in
-      let kept : v ≡ u = p.after ∙ rw (le-ltb u.count (room u) (omega (arith, ap length holds, as_many))) in
-      rw kept (ends (stopped s.before TableFull place) (s.same ∙ at_full file place s.before h _ r left (next_is (Ok r) e)) refl)
+      rw p.after (ends (stopped s.before TableFull place) (s.same ∙ at_full file place s.before h _ r left (next_is (Ok r) e)) refl)
 
-  pub underway_more : (r : LimeRange) (v : Table LimeRange) → place < length file → next_range file place (held u) ≡ Ok r → Pushed u v r true → Underway file t v (min (end_of r) (length file))
+  pub underway_more : (r : LimeRange) (v : Table LimeRange) → place < length file → next_range file place (held u) ≡ Ok r → Pushed u v r (Ok tt) → Underway file t v (min (end_of r) (length file))
   underway_more r v h e p =
-      let some : length (held u) < room u = ltb-true (length (held u)) (room u) (sym p.answer) in
+      let some : length (held u) < room u = grind (arith, nat_tests, p.answer) in
       let free : length s.before < room t = omega (arith, ap length holds, as_large) in
       let long : length (s.before ++ (r ∷ [])) ≡ suc (length s.before) = simp length-append (omega arith) in
       record {
         before = s.before ++ (r ∷ []);
         few = omega arith;
-        table = p.after ∙ ap (λ (w : Table LimeRange). pushed w r) s.table ∙ filled_pushed t s.before r free;
+        table = filled_pushed t s.before r u v s.table p free;
         same = s.same ∙ at_range file place s.before h _ (room t - length (s.before ++ (r ∷ []))) r (omega arith) (next_is (Ok r) e) ∙ sym (at_end_or_before file _ (end_of r) (s.before ++ (r ∷ [])));
       }
 
 -- an emptied table is loaded as the table before
-pub cleared : (file : List ℕ) (t s u : Table LimeRange) (place : ℕ) → s ≡ empty t.entries → Underway file s u place → Underway file t u place
-cleared file t s u place e h =
-    let k = subst (λ (v : Table LimeRange). Underway file v u place) e h in
-    record { before = k.before; few = k.few; table = k.table; same = k.same }
+pub cleared : (file : List ℕ) (t s u : Table LimeRange) (place : ℕ) → IsTable s t.entries 0 → Underway file s u place → Underway file t u place
+cleared file t s u place e h = record {
+  before = h.before;
+  few = rw e.entries at h.few;
+  table = record { entries = rw e.entries at h.table.entries; count = h.table.count };
+  same = rw e.entries at h.same;
+}

@@ -2,6 +2,7 @@ use Rattle.std.specs.Prelude.{◌≡◌, ℕ, List, ◌++◌, length, drop, Some
 use denote.Ref.{at_last}
 use Rattle.spaces.specs.declared.refusal.Refusal.{Refusal}
 use Rattle.extents.specs.declared.table.Table.{Table}
+use Rattle.extents.specs.Tables.{IsTable}
 use Rattle.images.specs.declared.load.NotLoaded.{NotLoaded}
 
 -- what a loader makes of a file: the extents that it writes, and the refusal that ends it, with the place of the header in question
@@ -14,11 +15,11 @@ abbrev pub answer : Option (Refusal × ℕ) → ℕ → Result ℕ NotLoaded
 answer None n = Ok n
 answer (Some (refusal, place)) n = Err (record { refusal = refusal; place = place; written = n })
 
--- the table afterwards: the extents in front, and all entries behind them as they were
-abbrev pub filled_with : {E : Type 0} → List E → Table E → Table E
-filled_with es t = record { entries = at_last t.entries (es ++ drop (length es) t.entries.now); count = length es }
+-- the table `u` is `t` with these extents in front, and all entries behind them as they were
+abbrev pub Filled : {E : Type 0} → List E → Table E → Table E → Type 0
+Filled es t u = IsTable u (at_last t.entries (es ++ drop (length es) t.entries.now)) (length es)
 
 -- a load answers r and makes u of the table t
 pub record Loads {E : Type 0} (load : Load E) (t u : Table E) (r : Result ℕ NotLoaded) : Type 0 where
   pub answers : r ≡ answer load.refused (length load.extents)
-  pub table : u ≡ filled_with load.extents t
+  pub table : Filled load.extents t u

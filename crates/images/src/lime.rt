@@ -7,7 +7,7 @@ ghost use Rattle.images.specs.Shows.{ShowsRanges, StopsAt};
 use crate::load::NotLoaded;
 use crate::range::LimeRange;
 use endian::{u32_at, u64_at};
-use extents::Table;
+use extents::{Full, Table};
 use spaces::Refusal;
 
 const MAGIC: u32 = 0x4C69_4D45;
@@ -71,16 +71,17 @@ fn load(file: &[u8], table: &mut Table<'_, LimeRange>) -> Result<usize, NotLoade
                 });
             }
         };
-        if !table.push(range) {
-            let refusal = Refusal::TableFull;
-            let written = table.len();
-            return Err(NotLoaded {
-                refusal,
-                place,
-                written,
-            });
+        match table.push(range) {
+            Ok(()) => place = end_in(file, &range),
+            Err(Full) => {
+                let written = table.len();
+                return Err(NotLoaded {
+                    refusal: Refusal::TableFull,
+                    place,
+                    written,
+                });
+            }
         }
-        place = end_in(file, &range);
     }
     Ok(table.len())
 }

@@ -5,7 +5,7 @@ ghost use Rattle.images.specs.Raw.{raw, ShowsFile, NoRoom};
 
 use crate::load::NotLoaded;
 use crate::raw::RawExtent;
-use extents::Table;
+use extents::{Full, Table};
 use spaces::Refusal;
 
 // Writes the file's extent, if it has one, into the table.
@@ -17,14 +17,14 @@ fn load(file: &[u8], table: &mut Table<'_, RawExtent>) -> Result<usize, NotLoade
         return Ok(0);
     }
     let last = file.len() as u64 - 1;
-    if table.push(RawExtent { last }) {
-        return Ok(1);
+    match table.push(RawExtent { last }) {
+        Ok(()) => Ok(1),
+        Err(Full) => Err(NotLoaded {
+            refusal: Refusal::TableFull,
+            place: 0,
+            written: 0,
+        }),
     }
-    Err(NotLoaded {
-        refusal: Refusal::TableFull,
-        place: 0,
-        written: 0,
-    })
 }
 
 // Makes the table hold a raw file's extent.

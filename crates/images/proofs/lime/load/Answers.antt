@@ -7,13 +7,13 @@ returns-in-Err c =
     let s = cleared _ _ _ _ _ c.clear.ensures c.loop-place.invariant in
     rw c.len-written.ensures (loads_to_refusal _ _ _ _ s c.in-Err.refusal c.loop-place-test.true (sym c.in-Err.ensures))
 
-pub returns-then-not-push : goal.returns-then-not-push
-returns-then-not-push c =
+pub returns-in-Err-push : goal.returns-in-Err-push
+returns-in-Err-push c =
     let s = cleared _ _ _ _ _ c.clear.ensures c.loop-place.invariant in
-    rw c.len-written-then-not-push.ensures (loads_to_full _ _ _ _ s _ _ c.loop-place-test.true (sym c.in-Ok.ensures) c.if-not-push.ensures)
+    rw c.len-written-in-Err-push.ensures (loads_to_full _ _ _ _ s _ _ c.loop-place-test.true (sym c.in-Ok.ensures) c.in-Err-push.ensures)
 
 pub loop-place-preserved : goal.loop-place-preserved
-loop-place-preserved c = rw c.end_in-place.ensures (underway_more _ _ _ _ c.loop-place.invariant _ _ c.loop-place-test.true (sym c.in-Ok.ensures) c.if-not-push.ensures)
+loop-place-preserved c = rw c.end_in-place.ensures (underway_more _ _ _ _ c.loop-place.invariant _ _ c.loop-place-test.true (sym c.in-Ok.ensures) c.in-Ok-push.ensures)
 
 pub returns : goal.returns
 returns c =
