@@ -45,7 +45,7 @@ impl<'a, E: Extent + Copy> Table<'a, E> {
     }
 
     // The extents that it holds.
-    fn held(&self) -> &[E]
+    pub fn as_slice(&self) -> &[E]
         ensures { result.now ≡ held self.now }
     {
         &self.entries[..self.count]
@@ -55,14 +55,14 @@ impl<'a, E: Extent + Copy> Table<'a, E> {
     pub fn len(&self) -> usize
         ensures { result ≡ length (held self.now) }
     {
-        self.held().len()
+        self.as_slice().len()
     }
 
     // The one at a place, counted from 0.
     pub fn get(&self, i: usize) -> Option<E>
         ensures { result ≡ slice_get (held self.now) i }
     {
-        self.held().get(i).copied()
+        self.as_slice().get(i).copied()
     }
 
     // The first that contains the address.
@@ -70,7 +70,7 @@ impl<'a, E: Extent + Copy> Table<'a, E> {
         ensures answer { result ≡ first_containing E.Extent.bounds (held self.now) at }
         ensures means { Finds E.Extent.bounds (held self.now) at result }
     {
-        self.held()
+        self.as_slice()
             .iter()
             .copied()
             .find(|extent| contains(extent, at))
@@ -81,6 +81,6 @@ impl<'a, E: Extent + Copy> Table<'a, E> {
         ensures answer { result ≡ overlaps_any E.Extent.bounds (held self.now) (X.Extent.bounds extent.now) }
         ensures means { Decides result (OverlapAny E.Extent.bounds (held self.now) (X.Extent.bounds extent.now)) }
     {
-        self.held().iter().any(|own| overlap(own, extent))
+        self.as_slice().iter().any(|own| overlap(own, extent))
     }
 }

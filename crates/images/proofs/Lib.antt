@@ -1,5 +1,4 @@
 pub mod Tables
-pub mod Raws
 pub mod Loading
 pub mod Separate
 pub mod Headers

@@ -4,10 +4,10 @@ use Rattle.std.proofs.lemmas.Bool.Decides.{nat_tests}
 use Rattle.spaces.specs.declared.refusal.Refusal.{Refusal}
 use Rattle.spaces.specs.declared.refusal.Refusal.TheVariants.{TableFull}
 use Rattle.extents.specs.declared.table.Table.{Table}
-use Rattle.extents.specs.Tables.{held, room, full, IsTable, Pushed}
+use Rattle.extents.specs.Tables.{held, room, IsTable}
 use Rattle.images.specs.declared.range.LimeRange.{LimeRange}
 use Rattle.images.specs.Loads.{Load, Loads, Filled, answer}
-use Rattle.images.specs.Lime.{end_of, next_range, stopped, go_on, at_place, lime_from, lime}
+use Rattle.images.specs.Lime.{end_of, next_range, Adds, NoRoomFor, stopped, go_on, at_place, lime_from, lime}
 use Rattle.images.proofs.Tables.{filled_held, filled_room, filled_pushed}
 
 -- The load of a LiME file from a place on.
@@ -72,19 +72,18 @@ module _ (file : List ℕ) (t u : Table LimeRange) (place : ℕ) (s : Underway f
   pub loads_all : length file ≤ place → Loads (lime (room t) file) t u (Ok (length (held u)))
   loads_all h = ends (done file s.before) (s.same ∙ at_end file _ place s.before h) refl
 
-  pub loads_to_refusal : (refusal : Refusal) → place < length file → next_range file place (held u) ≡ Err refusal
-      → Loads (lime (room t) file) t u (Err (record { refusal = refusal; place = place; written = length (held u) }))
-  loads_to_refusal refusal h e = ends (stopped s.before refusal place) (s.same ∙ at_refused file place s.before h _ refusal (next_is (Err refusal) e)) refl
+  pub loads_to_refusal : (refusal : Refusal) (v : Table LimeRange) → place < length file → Adds (next_range file place (held u)) u v (Err refusal)
+      → Loads (lime (room t) file) t v (Err (record { refusal = refusal; place = place; written = length (held v) }))
+  loads_to_refusal refusal v h a = rw a.0 (ends (stopped s.before refusal place) (s.same ∙ reason a.1) refl)
+    where
+      reason : (next_range file place (held u) ≡ Err refusal) ⊎ NoRoomFor (next_range file place (held u)) u refusal → lime_from (room t - length s.before) file place s.before ≡ stopped s.before refusal place
+      reason (inl e) = at_refused file place s.before h _ refusal (next_is (Err refusal) e)
+      reason (inr n) =
+          let left : room t - length s.before ≡ 0 = omega (arith, n.full, ap length holds, as_large) in
+          rw n.named (at_full file place s.before h _ n.range left (next_is (Ok n.range) n.is))
 
-  pub loads_to_full : (r : LimeRange) (v : Table LimeRange) → place < length file → next_range file place (held u) ≡ Ok r → Pushed u v r (Err full)
-      → Loads (lime (room t) file) t v (Err (record { refusal = TableFull; place = place; written = length (held v) }))
-  loads_to_full r v h e p =
-      let full : room u ≤ length (held u) = grind (arith, nat_tests, p.answer) in
-      let left : room t - length s.before ≡ 0 = omega (arith, ap length holds, as_large) in
-      rw p.after (ends (stopped s.before TableFull place) (s.same ∙ at_full file place s.before h _ r left (next_is (Ok r) e)) refl)
-
-  pub underway_more : (r : LimeRange) (v : Table LimeRange) → place < length file → next_range file place (held u) ≡ Ok r → Pushed u v r (Ok tt) → Underway file t v (min (end_of r) (length file))
-  underway_more r v h e p =
+  pub underway_more : (r : LimeRange) (v : Table LimeRange) → place < length file → Adds (next_range file place (held u)) u v (Ok r) → Underway file t v (min (end_of r) (length file))
+  underway_more r v h (e, p) =
       let some : length (held u) < room u = grind (arith, nat_tests, p.answer) in
       let free : length s.before < room t = omega (arith, ap length holds, as_large) in
       let long : length (s.before ++ (r ∷ [])) ≡ suc (length s.before) = simp length-append (omega arith) in

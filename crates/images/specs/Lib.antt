@@ -4,3 +4,4 @@ pub mod Loads
 pub mod Raw
 pub mod Lime
 pub mod Shows
+pub mod Texts

@@ -1,7 +1,8 @@
-use Rattle.std.specs.Prelude.{ℕ, zero, suc, ◌+◌, ◌-◌, Bool, cond, ◌&&◌, List, [], ◌∷◌, ◌++◌, length, Some, None, Ok, Err, Result, ◌==◌, nat_le, nat_lt}
+use Rattle.std.specs.Prelude.{◌≡◌, ◌≤◌, ◌⊎◌, MatchResult, ℕ, zero, suc, ◌+◌, ◌-◌, Bool, cond, ◌&&◌, List, [], ◌∷◌, ◌++◌, length, Some, None, Ok, Err, Result, ◌==◌, nat_le, nat_lt}
 use Rattle.spaces.specs.declared.refusal.Refusal.{Refusal}
 use Rattle.spaces.specs.declared.refusal.Refusal.TheVariants.{HeaderCut, BadHeader, Overlap, TableFull}
-use Rattle.extents.specs.Tables.{overlaps_any}
+use Rattle.extents.specs.declared.table.Table.{Table}
+use Rattle.extents.specs.Tables.{held, room, Pushed, overlaps_any}
 use Rattle.endian.specs.Little.{number_at}
 use Rattle.images.specs.declared.range.LimeRange.{LimeRange}
 use Rattle.images.specs.Kinds.{lime_bounds}
@@ -52,3 +53,15 @@ lime_from (suc room) file place before = at_place file place before (λ r. lime_
 
 abbrev pub lime : ℕ → List ℕ → Load LimeRange
 lime room file = lime_from room file 0 []
+
+-- A step of the load: the next range is added to the table `t`, or it is not, and nothing changes.
+module _ (next : Result LimeRange Refusal) (t : Table LimeRange) where
+  -- there is a range next, and no room for it
+  pub record NoRoomFor (refusal : Refusal) : Type 0 where
+    pub range : LimeRange
+    pub is : next ≡ Ok range
+    pub full : room t ≤ length (held t)
+    pub named : refusal ≡ TableFull
+
+  abbrev pub Adds : Table LimeRange → Result LimeRange Refusal → Type 0
+  Adds u r = MatchResult r (λ range. (next ≡ Ok range) × Pushed t u range (Ok tt)) (λ refusal. (u ≡ t) × ((next ≡ Err refusal) ⊎ NoRoomFor refusal))

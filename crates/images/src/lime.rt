@@ -1,13 +1,13 @@
 ghost use Rattle.std.specs.Prelude.{◌≡◌, ◌<◌, min, length, MatchResult};
 ghost use Rattle.extents.specs.Tables.{held, room};
 ghost use Rattle.images.specs.Loads.{Loads};
-ghost use Rattle.images.specs.Lime.{header_at, next_range, end_of, lime};
+ghost use Rattle.images.specs.Lime.{header_at, next_range, Adds, end_of, lime};
 ghost use Rattle.images.specs.Shows.{ShowsRanges, StopsAt};
 
 use crate::load::NotLoaded;
 use crate::range::LimeRange;
 use endian::{u32_at, u64_at};
-use extents::{Full, Table};
+use extents::Table;
 use spaces::Refusal;
 
 const MAGIC: u32 = 0x4C69_4D45;
@@ -53,32 +53,34 @@ fn end_in(file: &[u8], range: &LimeRange) -> usize
     end.min(file.len() as u128) as usize
 }
 
+// Adds the range whose header stands at a place to the table.
+fn add_next(
+    file: &[u8],
+    place: usize,
+    table: &mut Table<'_, LimeRange>,
+) -> Result<LimeRange, Refusal>
+    requires { place < length file.now }
+    ensures { Adds (next_range file.now place (held table.old)) table.old table.new result }
+{
+    let range = next_range(file, place, table)?;
+    table.push(range).map_err(|_| Refusal::TableFull)?;
+    Ok(range)
+}
+
 // Reads range after range into the table.
 fn load(file: &[u8], table: &mut Table<'_, LimeRange>) -> Result<usize, NotLoaded>
     ensures { Loads (lime (room table.old) file.now) table.old table.new result }
 {
     table.clear();
-    let mut place: usize = 0;
+    let mut place = 0;
     while place < file.len() {
-        let range = match next_range(file, place, table) {
-            Ok(range) => range,
+        match add_next(file, place, table) {
+            Ok(range) => place = end_in(file, &range),
             Err(refusal) => {
-                let written = table.len();
                 return Err(NotLoaded {
                     refusal,
                     place,
-                    written,
-                });
-            }
-        };
-        match table.push(range) {
-            Ok(()) => place = end_in(file, &range),
-            Err(Full) => {
-                let written = table.len();
-                return Err(NotLoaded {
-                    refusal: Refusal::TableFull,
-                    place,
-                    written,
+                    written: table.len(),
                 });
             }
         }

@@ -5,32 +5,23 @@ ghost use Rattle.images.specs.Raw.{raw, ShowsFile, NoRoom};
 
 use crate::load::NotLoaded;
 use crate::raw::RawExtent;
-use extents::{Full, Table};
+use extents::Table;
 use spaces::Refusal;
-
-// Writes the file's extent, if it has one, into the table.
-fn load(file: &[u8], table: &mut Table<'_, RawExtent>) -> Result<usize, NotLoaded>
-    ensures { Loads (raw (room table.old) file.now) table.old table.new result }
-{
-    table.clear();
-    if file.is_empty() {
-        return Ok(0);
-    }
-    let last = file.len() as u64 - 1;
-    match table.push(RawExtent { last }) {
-        Ok(()) => Ok(1),
-        Err(Full) => Err(NotLoaded {
-            refusal: Refusal::TableFull,
-            place: 0,
-            written: 0,
-        }),
-    }
-}
 
 // Makes the table hold a raw file's extent.
 pub fn load_raw(file: &[u8], table: &mut Table<'_, RawExtent>) -> Result<usize, NotLoaded>
     ensures loads { Loads (raw (room table.old) file.now) table.old table.new result }
     ensures law { MatchResult result (λ _. ShowsFile file.now (held table.new)) (NoRoom file.now (room table.old) (held table.new)) }
 {
-    load(file, table)
+    table.clear();
+    if file.is_empty() {
+        return Ok(0);
+    }
+    let last = file.len() as u64 - 1;
+    table.push(RawExtent { last }).map_err(|_| NotLoaded {
+        refusal: Refusal::TableFull,
+        place: 0,
+        written: 0,
+    })?;
+    Ok(1)
 }

@@ -2,7 +2,7 @@
 
 use extents::Table;
 use images::{LimeRange, NotLoaded};
-use spaces::{Fault, Numbered, Refusal, Space, Watched, locate, watched_set};
+use spaces::{Fault, Refusal, Space, Watched, locate, watched_set};
 use std::io;
 
 pub(crate) fn tell_load(
@@ -12,25 +12,13 @@ pub(crate) fn tell_load(
 ) -> io::Result<()> {
     match loaded {
         Ok(count) => println!(rt; "{name}: loaded, extents: {count}"),
-        Err(not) => {
-            let number = not.refusal.number();
-            let place = not.place;
-            let written = not.written;
-            println!(rt;
-                "{name}: refused {number:02x} at place {place}, extents before it: {written}"
-            )
-        }
+        Err(not) => println!(rt; "{name}: {not}"),
     }
 }
 
 pub(crate) fn list(rt: &HostRuntime, table: &Table<'_, LimeRange>) -> io::Result<()> {
-    for i in 0..table.len() {
-        if let Some(range) = table.get(i) {
-            let first = range.first;
-            let last = range.last;
-            let place = range.place;
-            println!(rt; "  {first:016x} to {last:016x}, bytes from place {place} on")?;
-        }
+    for range in table.as_slice() {
+        println!(rt; "  {range}")?;
     }
     Ok(())
 }
@@ -72,10 +60,7 @@ pub(crate) fn tell_clear<S: Space>(
 pub(crate) fn tell_outcome(rt: &HostRuntime, outcome: Result<(), Refusal>) -> io::Result<()> {
     match outcome {
         Ok(()) => println!(rt; "done"),
-        Err(refusal) => {
-            let number = refusal.number();
-            println!(rt; "refused {number:02x}")
-        }
+        Err(refusal) => println!(rt; "refused {refusal}"),
     }
 }
 
@@ -87,10 +72,7 @@ pub(crate) fn tell_byte<S: Space>(rt: &HostRuntime, space: &S, at: u64) -> io::R
 pub(crate) fn tell_answer(rt: &HostRuntime, at: u64, answer: Result<u8, Fault>) -> io::Result<()> {
     match answer {
         Ok(b) => println!(rt; "{at:016x} has {b:02x}"),
-        Err(fault) => {
-            print!(rt; "{at:016x} has no byte: ")?;
-            tell_fault(rt, fault)
-        }
+        Err(fault) => println!(rt; "{at:016x} has no byte: {fault}"),
     }
 }
 
@@ -104,16 +86,6 @@ pub(crate) fn tell_fill<S: Space>(rt: &HostRuntime, space: &S, first: u64) -> io
     }
     match fault {
         None => println!(rt; ""),
-        Some(fault) => {
-            print!(rt; ", then no byte: ")?;
-            tell_fault(rt, fault)
-        }
+        Some(fault) => println!(rt; ", then no byte: {fault}"),
     }
-}
-
-pub(crate) fn tell_fault(rt: &HostRuntime, fault: Fault) -> io::Result<()> {
-    let depth = fault.depth;
-    let address = fault.address;
-    let cause = fault.cause;
-    println!(rt; "depth {depth}, address {address:016x}, cause {cause:02x}")
 }
