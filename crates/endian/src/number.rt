@@ -1,7 +1,7 @@
 ghost use Rattle.std.specs.Prelude.{◌≡◌};
 ghost use Rattle.endian.specs.Little.{bytes_in, number_in};
 
-// The bytes from a place on that fill an array, or none if the file's end comes before that.
+// The N bytes from a place on, or none if the bytes end before that.
 fn bytes_at<const N: usize>(bytes: &[u8], place: usize) -> Option<[u8; N]>
     ensures { result ≡ bytes_in bytes.now place N }
 {

@@ -9,12 +9,15 @@ use Rattle.extents.specs.Bounds.{Bounds, Contains, contains, overlaps}
 use Rattle.extents.specs.Tables.{first_containing, Finds, overlaps_any, OverlapAny}
 use Rattle.extents.proofs.Exact.{contains_exact, overlaps_exact}
 
+-- What the definitions of the searches say, for the crates above: of the calls the check finds it alone.
+
 module _ {E : Type 0} (bounds : E → Bounds) where
   -- the first that contains an address
   module _ (a : ℕ) (es : List E) where
     abbrev test : E → Bool
     test e = contains (bounds e) a
 
+    -- one before the first does not
     misses : (k : ℕ) (e : E) → k < position_or_len test es → get_or es k e ≡ e → Contains (bounds e) a → ⊥
     misses k e h s c = grind (arith, s, fails_before_first test es k e h, (contains_exact (bounds e) a).1 c)
 
