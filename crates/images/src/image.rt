@@ -1,6 +1,7 @@
 ghost use Rattle.std.specs.Prelude.{◌≡◌};
 ghost use Rattle.spaces.specs.Numbers.{numbered};
-ghost use Rattle.spaces.specs.Lawful.{bottom};
+ghost use Rattle.spaces.specs.Piles.{bottom};
+ghost use Rattle.spaces.proofs.Lawful.{bottom_lawful};
 ghost use Rattle.extents.specs.Tables.{held};
 ghost use Rattle.images.specs.Images.{image};
 
@@ -24,6 +25,8 @@ impl<'t, 'f, E: Stored + Copy> Image<'t, 'f, E> {
 
 impl<E: Stored + Copy> Space for Image<'_, '_, E> {
     ghost meaning = { λ s. bottom (λ a. numbered (image E.Extent.bounds E.Stored.places (held s.table) s.file.now a)) };
+
+    ghost lawful = { λ s. bottom_lawful (λ a. numbered (image E.Extent.bounds E.Stored.places (held s.table) s.file.now a)) };
 
     fn byte(&self, at: u64) -> Result<u8, Fault> {
         let extent = self.table.lookup(at).ok_or(Cause::NoExtent.at(at))?;

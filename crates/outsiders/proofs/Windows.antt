@@ -4,9 +4,9 @@ use mathlib.Core.List.{Memᴰ}
 use Rattle.std.proofs.lemmas.Bool.{ltb-true, and_parts}
 use Rattle.spaces.specs.declared.fault.Fault.{Fault}
 use Rattle.spaces.specs.Maps.{Answer, Map, own}
-use Rattle.spaces.specs.Walks.{give, fail, ask, walked, rule_of}
+use Rattle.spaces.specs.Walks.{give, fail, ask, walked}
 use Rattle.spaces.specs.Rules.{Own, Climbs}
-use Rattle.spaces.specs.Piles.{plain, Pile, shown, from_depth, LawfulPile}
+use Rattle.spaces.specs.Piles.{walking, Pile, shown, from_depth}
 use Rattle.spaces.specs.Edits.{setting}
 use Rattle.spaces.specs.PileLaws.{Arose, Misses}
 use Rattle.spaces.specs.CallLaws.{Locates}
@@ -15,7 +15,7 @@ use Rattle.spaces.proofs.Below.{trail_below}
 use Rattle.outsiders.specs.Shapes.{window}
 use Rattle.outsiders.specs.Sights.{through_window, Blames}
 
-module _ (start size : ℕ) (below : LawfulPile) where
+module _ (start size : ℕ) (below : Pile) where
   abbrev seen : Pile
   seen = through_window start size below
 
@@ -35,21 +35,21 @@ module _ (start size : ℕ) (below : LawfulPile) where
       step false e t = absurd (Memᴰ.not-nil t)
 
   pub unseen : (first : ℕ) (bytes : List ℕ) (at : ℕ) → (first + length bytes ≤ start) ⊎ (start + size ≤ first) → Misses seen (at ∷ []) 1 (setting first bytes)
-  unseen first bytes at h x t i = step h (rests_inside (shown below.pile) at x (subst (λ (l : List ℕ). Memᴰ x l) (trail_below (plain (rule_of (window start size))) (walk_lawful (window start size)) below at) t))
+  unseen first bytes at h x t i = step h (rests_inside (shown below) at x (subst (λ (l : List ℕ). Memᴰ x l) (trail_below (walking (window start size)) below at) t))
     where
       step : (first + length bytes ≤ start) ⊎ (start + size ≤ first) → (start ≤ x) × (x < start + size) → ⊥
       step (inl l) s = omega arith
       step (inr l) s = omega arith
 
   -- a fault of depth 0 is the window's own
-  own_at : (at : ℕ) (f : Fault) → f.depth ≡ 0 → Own at f ⊎ Climbs (shown below.pile) (walked at (window start size at) (shown below.pile)).1 f → f ≡ own at f.cause
+  own_at : (at : ℕ) (f : Fault) → f.depth ≡ 0 → Own at f ⊎ Climbs (shown below) (walked at (window start size at) (shown below)).1 f → f ≡ own at f.cause
   own_at at f z (inl o) = λ i. record { depth = o.0 i; address = o.1 i; cause = f.cause }
   own_at at f z (inr c) = absurd (omega (arith, z, ap (λ (g : Fault). g.depth) c.4))
 
   -- and any other arose below
   blamed : (at : ℕ) (f : Fault) → shown seen at ≡ Err f → Arose seen f → (k : ℕ) → f.depth ≡ k
-      → (f ≡ own at f.cause) ⊎ ((d : ℕ) × (f.depth ≡ suc d) × Arose below.pile (record { depth = d; address = f.address; cause = f.cause }))
-  blamed at f e s zero q = inl (own_at at f q ((walk_lawful (window start size)).faults (shown below.pile) at f e))
+      → (f ≡ own at f.cause) ⊎ ((d : ℕ) × (f.depth ≡ suc d) × Arose below (record { depth = d; address = f.address; cause = f.cause }))
+  blamed at f e s zero q = inl (own_at at f q ((walk_lawful (window start size)).faults (shown below) at f e))
   blamed at f e s (suc d) q = inr (
     d,
     q,
@@ -59,5 +59,5 @@ module _ (start size : ℕ) (below : LawfulPile) where
     },
   )
 
-  pub blames : (at : ℕ) (r : Answer) → Locates seen at r → Blames start size below.pile at r
+  pub blames : (at : ℕ) (r : Answer) → Locates seen at r → Blames start size below at r
   blames at r l = record { answer = l.answer; arose = λ f e n. blamed at f (sym l.answer ∙ e) (l.arose f e (omega arith)) f.depth refl }

@@ -3,14 +3,13 @@ use Rattle.spaces.specs.declared.fault.Fault.{Fault}
 use Rattle.spaces.specs.declared.watch.Watched.{Watched}
 use Rattle.spaces.specs.Maps.{Answer, own}
 use Rattle.spaces.specs.Walks.{found}
-use Rattle.spaces.proofs.Walking.{walk_on}
-use Rattle.spaces.specs.Piles.{Pile, shown, LawfulPile}
+use Rattle.spaces.specs.Piles.{Pile, on, walking, shown}
 use Rattle.spaces.specs.PileLaws.{Arose}
 use Rattle.outsiders.specs.Shapes.{window}
 
 -- the pile of a window on another
-abbrev pub through_window : ℕ → ℕ → LawfulPile → Pile
-through_window start size below = (walk_on (window start size) below).pile
+abbrev pub through_window : ℕ → ℕ → Pile → Pile
+through_window start size below = on (walking (window start size)) below
 
 -- a read through a window: a fault is its own, or it arose in the pile below, where it is one less deep
 pub record Blames (start size : ℕ) (below : Pile) (at : ℕ) (r : Answer) : Type 0 where

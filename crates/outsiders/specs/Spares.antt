@@ -4,7 +4,7 @@ use mathlib.Core.List.{Memᴰ}
 use Rattle.spaces.specs.declared.fault.Fault.{Fault}
 use Rattle.spaces.specs.Maps.{Answer, Map, climbed, raised}
 use Rattle.spaces.specs.Rules.{Rule, Agree, Climbs, LawfulRule}
-use Rattle.spaces.specs.Lawful.{err_err}
+use Rattle.spaces.proofs.Lawful.{err_err}
 
 -- from the answer at an address: a byte stands, and after a fault the further address is tried if there is one
 abbrev pub tried : Answer → Bool → Answer → ℕ → ℕ → Answer × List ℕ

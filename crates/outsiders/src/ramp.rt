@@ -1,4 +1,5 @@
-ghost use Rattle.spaces.specs.Lawful.{bottom};
+ghost use Rattle.spaces.specs.Piles.{bottom};
+ghost use Rattle.spaces.proofs.Lawful.{bottom_lawful};
 ghost use Rattle.outsiders.specs.Shapes.{ramp};
 
 use spaces::{Edit, Fault, Refusal, Space, no_overlay_here};
@@ -11,6 +12,8 @@ pub struct Ramp {
 
 impl Space for Ramp {
     ghost meaning = { λ s. bottom (ramp s.length) };
+
+    ghost lawful = { λ s. bottom_lawful (ramp s.length) };
 
     fn byte(&self, at: u64) -> Result<u8, Fault> {
         if at < self.length {

@@ -1,4 +1,5 @@
-ghost use Rattle.spaces.specs.Lawful.{layer_on};
+ghost use Rattle.spaces.specs.Piles.{on, plain};
+ghost use Rattle.spaces.proofs.Lawful.{on_lawful};
 ghost use Rattle.outsiders.specs.Spares.{spare, spare_lawful};
 
 use spaces::{Edit, Fault, Refusal, Space, climb, edit_under};
@@ -12,7 +13,9 @@ pub struct Spare<S> {
 }
 
 impl<S: Space> Space for Spare<S> {
-    ghost meaning = { λ s. layer_on (spare s.offset) (spare_lawful s.offset) (S.Space.meaning s.below) };
+    ghost meaning = { λ s. on (plain (spare s.offset)) (S.Space.meaning s.below) };
+
+    ghost lawful = { λ s. on_lawful (plain (spare s.offset)) _ (spare_lawful s.offset) (S.Space.lawful s.below) };
 
     fn byte(&self, at: u64) -> Result<u8, Fault> {
         let here = self.below.byte(at);

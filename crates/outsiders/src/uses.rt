@@ -10,7 +10,7 @@ use spaces::{Fault, Space, Watched, locate, watched_set};
 
 // The byte of a window at an address. A fault is the window's own, or it arose in the space below.
 pub fn byte_in_window<S: Space>(window: &Window<S>, at: u64) -> Result<u8, Fault>
-    ensures { Blames window.now.start window.now.length (S.Space.meaning window.now.below).pile at result }
+    ensures { Blames window.now.start window.now.length (S.Space.meaning window.now.below) at result }
 {
     locate(window, at)
 }

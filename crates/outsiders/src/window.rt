@@ -1,4 +1,5 @@
-ghost use Rattle.spaces.proofs.Walking.{walk_on};
+ghost use Rattle.spaces.specs.Piles.{on, walking};
+ghost use Rattle.spaces.proofs.Walking.{walking_lawful};
 ghost use Rattle.outsiders.specs.Shapes.{window};
 
 use spaces::{Edit, Fault, Refusal, Space, climb, edit_under};
@@ -12,7 +13,9 @@ pub struct Window<S> {
 }
 
 impl<S: Space> Space for Window<S> {
-    ghost meaning = { λ s. walk_on (window s.start s.length) (S.Space.meaning s.below) };
+    ghost meaning = { λ s. on (walking (window s.start s.length)) (S.Space.meaning s.below) };
+
+    ghost lawful = { λ s. walking_lawful (window s.start s.length) _ (S.Space.lawful s.below) };
 
     fn byte(&self, at: u64) -> Result<u8, Fault> {
         let outside = Err(Fault::own(at, 0x78));

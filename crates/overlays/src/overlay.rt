@@ -1,5 +1,6 @@
 ghost use Rattle.std.specs.Prelude.{◌≡◌, []};
-ghost use Rattle.spaces.specs.Lawful.{overlay_on};
+ghost use Rattle.spaces.specs.Piles.{on, overlay};
+ghost use Rattle.spaces.proofs.Lawful.{on_lawful};
 ghost use Rattle.overlays.specs.Tables.{held, held_lawful};
 
 use crate::table::PatchTable;
@@ -24,7 +25,9 @@ impl<S: Space> Overlay<S> {
 }
 
 impl<S: Space> Space for Overlay<S> {
-    ghost meaning = { λ s. overlay_on (held s.patches) (held_lawful s.patches) (S.Space.meaning s.below) };
+    ghost meaning = { λ s. on (overlay (held s.patches)) (S.Space.meaning s.below) };
+
+    ghost lawful = { λ s. on_lawful (overlay (held s.patches)) _ (held_lawful s.patches) (S.Space.lawful s.below) };
 
     fn byte(&self, at: u64) -> Result<u8, Fault> {
         Ok(match self.patches.lookup(at) {

@@ -3,11 +3,10 @@ use mathlib.Core.List.{Memᴰ}
 use Rattle.spaces.specs.declared.watch.Watched.{Watched}
 use Rattle.spaces.specs.Maps.{Answer, Map}
 use Rattle.spaces.specs.Walks.{rule_of}
-use Rattle.spaces.specs.Piles.{plain, LawfulPile, shown}
+use Rattle.spaces.specs.Piles.{walking, Pile, shown}
 use Rattle.spaces.specs.Edits.{Edit, setting, clearing, patch_at}
 use Rattle.spaces.specs.EditLaws.{Patching, Inside, Touches}
 use Rattle.spaces.specs.CallLaws.{Watches}
-use Rattle.spaces.proofs.Walking.{walk_lawful}
 use Rattle.spaces.proofs.Below.{trail_below}
 use Rattle.paging.specs.Formats.{Format}
 use Rattle.paging.specs.Paged.{paged}
@@ -24,11 +23,11 @@ touches_inside : (e : Edit) (old : Patching) (x : ℕ) → Touches e old x → I
 touches_inside (setting first bytes) old x t = t
 touches_inside (clearing first count) old x t = t.0
 
-pub edits_below : (p : Format) (cr3 : ℕ) (below : LawfulPile) (new : ℕ) (after : LawfulPile) (e : Edit) (at : ℕ) (w : Watched)
-    → Watches (paging_on p cr3 below).pile (paging_on p new after).pile 1 e at w → EditsBelow p cr3 new below after e at w
+pub edits_below : (p : Format) (cr3 : ℕ) (below : Pile) (new : ℕ) (after : Pile) (e : Edit) (at : ℕ) (w : Watched)
+    → Watches (paging_on p cr3 below) (paging_on p new after) 1 e at w → EditsBelow p cr3 new below after e at w
 edits_below p cr3 below new after e at w h = record {
   watches = h;
   kept = λ trail rests off. h.kept (λ x i t. off x
-      (subst (λ (l : List ℕ). Memᴰ x l) (trail_below (plain (rule_of (paged p cr3))) (walk_lawful (paged p cr3)) below at ∙ rests_is_trail p (shown below.pile) cr3 at trail rests) i)
-      (touches_inside e (patch_at (paging_on p cr3 below).pile 1) x t));
+      (subst (λ (l : List ℕ). Memᴰ x l) (trail_below (walking (paged p cr3)) below at ∙ rests_is_trail p (shown below) cr3 at trail rests) i)
+      (touches_inside e (patch_at (paging_on p cr3 below) 1) x t));
 }

@@ -4,11 +4,11 @@ use Rattle.spaces.specs.declared.fault.Fault.{Fault}
 use Rattle.spaces.specs.declared.watch.Watched.{Watched}
 use Rattle.spaces.specs.Maps.{Map, raised}
 use Rattle.spaces.specs.Walks.{found, rule_of}
-use Rattle.spaces.specs.Piles.{LawfulPile, shown}
+use Rattle.spaces.specs.Piles.{Pile, Lawful, on, walking, shown}
+use Rattle.spaces.proofs.Walking.{walking_lawful}
 use Rattle.spaces.specs.Edits.{Edit}
 use Rattle.spaces.specs.EditLaws.{Inside}
 use Rattle.spaces.specs.CallLaws.{Watches}
-use Rattle.spaces.proofs.Walking.{walk_on}
 use Rattle.paging.specs.declared.entry.Page.{Page}
 use Rattle.paging.specs.declared.translation.Translation.{Translation}
 use Rattle.paging.specs.Formats.{Format}
@@ -17,8 +17,12 @@ use Rattle.paging.specs.Translations.{Translates, Fails, Answers}
 
 -- What a paging layer means, and what its calls promise.
 
-abbrev pub paging_on : Format → (cr3 : ℕ) → LawfulPile → LawfulPile
-paging_on p cr3 below = walk_on (paged p cr3) below
+abbrev pub paging_on : Format → (cr3 : ℕ) → Pile → Pile
+paging_on p cr3 below = on (walking (paged p cr3)) below
+
+-- it keeps the laws of a layer, since it walks
+pub paging_lawful : (p : Format) (cr3 : ℕ) (below : Pile) → Lawful below → Lawful (paging_on p cr3 below)
+paging_lawful p cr3 below h = walking_lawful (paged p cr3) below h
 
 module _ (p : Format) (m : Map) (cr3 a : ℕ) where
   -- The layer shows at an address the byte at the final address, and rests on the table bytes on the way and on that
@@ -43,6 +47,6 @@ pub record Translated (p : Format) (m : Map) (cr3 a : ℕ) (r : Result Translati
   pub shows : (b : ℕ) → Shows p m cr3 b
 
 -- An edit right below while one address is watched: off the addresses on which it rests, the edit changes nothing there.
-pub record EditsBelow (p : Format) (old new : ℕ) (below after : LawfulPile) (e : Edit) (at : ℕ) (w : Watched) : Type 0 where
-  pub watches : Watches (paging_on p old below).pile (paging_on p new after).pile 1 e at w
-  pub kept : (trail : List ℕ) → RestsOn p (shown below.pile) old at trail → ((x : ℕ) → Memᴰ x trail → Inside e x → ⊥) → w.after ≡ w.before
+pub record EditsBelow (p : Format) (old new : ℕ) (below after : Pile) (e : Edit) (at : ℕ) (w : Watched) : Type 0 where
+  pub watches : Watches (paging_on p old below) (paging_on p new after) 1 e at w
+  pub kept : (trail : List ℕ) → RestsOn p (shown below) old at trail → ((x : ℕ) → Memᴰ x trail → Inside e x → ⊥) → w.after ≡ w.before

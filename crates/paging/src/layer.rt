@@ -1,7 +1,7 @@
 ghost use Rattle.std.specs.Prelude.{◌≡◌};
 ghost use Rattle.spaces.specs.Piles.{shown};
 ghost use Rattle.spaces.specs.Edits.{setting};
-ghost use Rattle.paging.specs.Layers.{paging_on, Translated, EditsBelow};
+ghost use Rattle.paging.specs.Layers.{paging_on, paging_lawful, Translated, EditsBelow};
 
 use crate::scheme::Scheme;
 use crate::translation::Translation;
@@ -25,7 +25,7 @@ impl<P: Scheme, S: Space> Paging<P, S> {
 
     // Where an address goes, or what is missing on the way.
     pub fn translate(&self, at: u64) -> Result<Translation, Fault>
-        ensures { Translated P.Scheme.format (shown (S.Space.meaning self.now.below).pile) self.now.cr3 at result }
+        ensures { Translated P.Scheme.format (shown (S.Space.meaning self.now.below)) self.now.cr3 at result }
     {
         let page = walk::<P, S>(&self.below, self.cr3, at)?;
         Ok(Translation::on(page, at))
@@ -42,6 +42,8 @@ impl<P: Scheme, S: Space> Paging<P, S> {
 
 impl<P: Scheme, S: Space> Space for Paging<P, S> {
     ghost meaning = { λ s. paging_on P.Scheme.format s.cr3 (S.Space.meaning s.below) };
+
+    ghost lawful = { λ s. paging_lawful P.Scheme.format s.cr3 _ (S.Space.lawful s.below) };
 
     fn byte(&self, at: u64) -> Result<u8, Fault> {
         let place = self.translate(at)?.address;

@@ -14,7 +14,7 @@ use spaces::{Fault, FaultCause, Space, climb};
 
 // The byte below at an address; a fault comes up one deeper.
 pub(crate) fn byte_below<S: Space>(below: &S, at: u64) -> Result<u8, Fault>
-    ensures { result ≡ raised (shown (S.Space.meaning below.now).pile at) }
+    ensures { result ≡ raised (shown (S.Space.meaning below.now) at) }
 {
     climb(below.byte(at))
 }
@@ -22,7 +22,7 @@ pub(crate) fn byte_below<S: Space>(below: &S, at: u64) -> Result<u8, Fault>
 // The number in so many bytes below, the lowest read first.
 fn number<S: Space>(below: &S, at: u64, width: u8) -> Result<u64, Fault>
     requires { (width ≤ 8) × (at + width < 2 ^ 64) }
-    ensures { result ≡ as_number (got (shown (S.Space.meaning below.now).pile) (span at width)) }
+    ensures { result ≡ as_number (got (shown (S.Space.meaning below.now)) (span at width)) }
 {
     let mut number = 0;
     for n in 0..width {
@@ -35,7 +35,7 @@ fn number<S: Space>(below: &S, at: u64, width: u8) -> Result<u64, Fault>
 // The entry of an address in a table of a level.
 fn entry<P: Scheme, S: Space>(below: &S, table: u64, level: u8, at: u64) -> Result<Entry, Fault>
     requires { table < 2 ^ 52 }
-    ensures { result ≡ entry_found P.Scheme.format (shown (S.Space.meaning below.now).pile) at level table }
+    ensures { result ≡ entry_found P.Scheme.format (shown (S.Space.meaning below.now)) at level table }
 {
     let place = table + P::index(level, at) * P::WIDTH as u64;
     let raw = number(below, place, P::WIDTH)?;
@@ -47,7 +47,7 @@ fn entry<P: Scheme, S: Space>(below: &S, table: u64, level: u8, at: u64) -> Resu
 
 // The page of an address, from the root table down.
 pub(crate) fn walk<P: Scheme, S: Space>(below: &S, cr3: u64, at: u64) -> Result<Page, Fault>
-    ensures is { result ≡ found at (page_of P.Scheme.format cr3 at) (shown (S.Space.meaning below.now).pile) }
+    ensures is { result ≡ found at (page_of P.Scheme.format cr3 at) (shown (S.Space.meaning below.now)) }
     ensures placed { IfOk result Placed }
 {
     if !P::lawful(at) {

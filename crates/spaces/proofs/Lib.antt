@@ -1,3 +1,4 @@
+pub mod Lawful
 pub mod Walking
 pub mod Filling
 pub mod Ascents

@@ -3,11 +3,11 @@ use mathlib.Core.List.{Memᴰ}
 use Rattle.spaces.specs.declared.fault.Fault.{Fault}
 use Rattle.spaces.specs.Maps.{Answer, Map, own, climbed}
 use Rattle.spaces.specs.Rules.{Agree, Own, Climbs}
-use Rattle.spaces.specs.Walks.{Walk, give, fail, ask, asked, walked, rule_of, EveryWalkIsLawful}
-use Rattle.spaces.specs.Piles.{LawfulPile}
-use Rattle.spaces.specs.Lawful.{err_err, own_is, layer_on}
+use Rattle.spaces.specs.Walks.{Walk, give, fail, ask, asked, walked, EveryWalkIsLawful}
+use Rattle.spaces.specs.Piles.{walking, Pile, on, Lawful}
+use Rattle.spaces.proofs.Lawful.{err_err, own_is, on_lawful}
 
--- Every layer that is described by a walk keeps both laws; so such a layer's meaning is made from its walk alone.
+-- Every layer that is described by a walk keeps both laws.
 
 -- an address that is asked stands in the trail
 asked_first : {X : Type 0} (w : Answer) (x : ℕ) (k : ℕ → Result X Fault × List ℕ) → Memᴰ x (asked w x k).1
@@ -42,6 +42,5 @@ walk_faults a (ask x k) m f e = step (m x) refl (λ b. walk_faults a (k b) m f) 
 pub walk_lawful : EveryWalkIsLawful
 walk_lawful w = record { footing = λ m n a. walk_footing a (w a) m n; faults = λ m a f. walk_faults a (w a) m f }
 
--- a layer over a pile, by its walk at each address
-abbrev pub walk_on : (ℕ → Walk ℕ) → LawfulPile → LawfulPile
-walk_on w below = layer_on (rule_of w) (walk_lawful w) below
+pub walking_lawful : (w : ℕ → Walk ℕ) (p : Pile) → Lawful p → Lawful (on (walking w) p)
+walking_lawful w p h = on_lawful (walking w) p (walk_lawful w) h

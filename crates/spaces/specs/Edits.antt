@@ -100,4 +100,4 @@ pub record Edits (old new : Pile) (depth : ℕ) (e : Edit) (r : Outcome) : Type 
 
 -- the same of whatever layer over a pile, overlays apart
 abbrev pub EditsUnder : Pile → Pile → ℕ → Edit → Outcome → Type 0
-EditsUnder old new depth e r = (l : Rule) → Edits (on l old) (on l new) depth e r
+EditsUnder old new depth e r = (l : Rule) → Edits (on (plain l) old) (on (plain l) new) depth e r

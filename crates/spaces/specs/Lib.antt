@@ -7,7 +7,6 @@ pub mod Walks
 pub mod Patches
 pub mod Piles
 pub mod Trails
-pub mod Lawful
 pub mod Edits
 pub mod Meant
 pub mod EditLaws

@@ -1,5 +1,5 @@
-use Rattle.std.specs.Prelude.{ℕ, List, [], ◌∷◌, drop, Some, None, Option}
-use Rattle.spaces.specs.Maps.{Map}
+use Rattle.std.specs.Prelude.{ℕ, List, [], ◌∷◌, drop, Some, None, Option, Result}
+use Rattle.spaces.specs.Maps.{Map, owned}
 use Rattle.spaces.specs.Rules.{Rule, LawfulRule, LawfulBase}
 use Rattle.spaces.specs.Walks.{Walk, give, ask, rule_of}
 use Rattle.spaces.specs.Patches.{Patches, lookup, LawfulPatches}
@@ -14,6 +14,10 @@ abbrev pub patched : Option ℕ → ℕ → Walk ℕ
 patched (Some b) a = give b
 patched None a = ask a give
 
+-- a layer that walks
+abbrev pub walking : (ℕ → Walk ℕ) → Layer
+walking w = plain (rule_of w)
+
 abbrev pub rule : Layer → Rule
 rule (plain r) = r
 rule (overlay ps) = rule_of (λ a. patched (lookup ps a) a)
@@ -23,9 +27,13 @@ pub record Pile : Type 0 where
   pub layers : List Layer
   pub base : Map
 
--- a layer over a pile
-abbrev pub on : Rule → Pile → Pile
-on r p = record { layers = plain r ∷ p.layers; base = p.base }
+-- a bottom alone, by the byte or the cause at each address
+abbrev pub bottom : (ℕ → Result ℕ ℕ) → Pile
+bottom w = record { layers = []; base = λ a. owned a (w a) }
+
+-- one layer more on a pile
+abbrev pub on : Layer → Pile → Pile
+on l p = record { layers = l ∷ p.layers; base = p.base }
 
 -- the rules applied to the bottom's map, from the bottom up
 abbrev pub composed : List Layer → Map → Map
@@ -51,7 +59,7 @@ pub record Lawful (p : Pile) : Type 0 where
   pub layers : LawfulLayers p.layers
   pub base : LawfulBase p.base
 
--- a pile that keeps the laws: what every space means
+-- a pile that keeps the laws
 pub record LawfulPile : Type 0 where
   pub pile : Pile
   pub lawful : Lawful pile

@@ -1,5 +1,5 @@
 ghost use Rattle.std.specs.Prelude.{◌≡◌};
-ghost use Rattle.spaces.specs.Piles.{LawfulPile, shown};
+ghost use Rattle.spaces.specs.Piles.{Pile, Lawful, shown};
 ghost use Rattle.spaces.specs.Reads.{Fills};
 ghost use Rattle.spaces.specs.Edits.{Edits, setting, clearing};
 ghost use Rattle.spaces.specs.Meant.{meant};
@@ -8,18 +8,17 @@ use crate::edit::Edit;
 use crate::fault::Fault;
 use crate::refusal::Refusal;
 
-// A pile that can be read, and patched where it has overlays. What it means carries the proof that every layer and
-// the bottom keep their laws.
+// A pile that can be read, and patched where it has overlays.
 pub trait Space {
-    ghost meaning: { Self → LawfulPile };
+    ghost meaning: { Self → Pile };
 
     // The byte at an address.
     fn byte(&self, at: u64) -> Result<u8, Fault>
-        ensures { result ≡ shown (meaning self.now).pile at };
+        ensures { result ≡ shown (meaning self.now) at };
 
     // The bytes from an address on, up to the first fault, the buffer's end or address 2^64 - 1: how many, and the fault.
     fn fill(&self, first: u64, out: &mut [u8]) -> (usize, Option<Fault>)
-        ensures { Fills (shown (meaning self.now).pile) first out.old out.new result }
+        ensures { Fills (shown (meaning self.now)) first out.old out.new result }
     {
         for n in 0..out.len() {
             let Some(at) = first.checked_add(n as u64) else {
@@ -35,19 +34,22 @@ pub trait Space {
 
     // Changes the overlay at a depth.
     fn edit(&mut self, depth: u8, edit: Edit<'_>) -> Result<(), Refusal>
-        ensures { Edits (meaning self.old).pile (meaning self.new).pile depth (meant edit.entry) result };
+        ensures { Edits (meaning self.old) (meaning self.new) depth (meant edit.entry) result };
 
     // Patches consecutive addresses in the overlay at a depth.
     fn set(&mut self, depth: u8, first: u64, bytes: &[u8]) -> Result<(), Refusal>
-        ensures { Edits (meaning self.old).pile (meaning self.new).pile depth (setting first bytes.now) result }
+        ensures { Edits (meaning self.old) (meaning self.new) depth (setting first bytes.now) result }
     {
         self.edit(depth, Edit::Set { first, bytes })
     }
 
     // Takes back the patches among some addresses in the overlay at a depth.
     fn clear(&mut self, depth: u8, first: u64, count: u64) -> Result<(), Refusal>
-        ensures { Edits (meaning self.old).pile (meaning self.new).pile depth (clearing first count) result }
+        ensures { Edits (meaning self.old) (meaning self.new) depth (clearing first count) result }
     {
         self.edit(depth, Edit::Clear { first, count })
     }
+
+    // Every layer and the bottom keep their laws.
+    ghost lawful: { (s : Self) → Lawful (meaning s) };
 }

@@ -18,7 +18,7 @@ pub fn no_overlay_here(edit: Edit<'_>) -> Refusal
 
 // An edit at a depth of a layer that is no overlay: the space below is edited, one depth less, or the edit is refused.
 pub fn edit_under<S: Space>(below: &mut S, depth: u8, edit: Edit<'_>) -> Result<(), Refusal>
-    ensures { EditsUnder (S.Space.meaning below.old).pile (S.Space.meaning below.new).pile depth (meant edit.entry) result }
+    ensures { EditsUnder (S.Space.meaning below.old) (S.Space.meaning below.new) depth (meant edit.entry) result }
 {
     match depth.checked_sub(1) {
         Some(depth) => below.edit(depth, edit),

@@ -15,7 +15,7 @@ pub struct Watched {
 
 // Patches consecutive addresses in the overlay at a depth, and reads one address before and after.
 pub fn watched_set<S: Space>(space: &mut S, depth: u8, first: u64, bytes: &[u8], at: u64) -> Watched
-    ensures { Watches (S.Space.meaning space.old).pile (S.Space.meaning space.new).pile depth (setting first bytes.now) at result }
+    ensures { Watches (S.Space.meaning space.old) (S.Space.meaning space.new) depth (setting first bytes.now) at result }
 {
     let before = space.byte(at);
     let outcome = space.set(depth, first, bytes);
