@@ -6,7 +6,7 @@ use crate::extent::{Extent, contains, overlap};
 #[derive(Clone, Copy, Debug, PartialEq, Eq)]
 pub struct Full;
 
-// Extents in the caller's memory: the first `count` entries of a slice.
+// Extents in the caller's memory: the first `count` entries of a slice. The memory is lent, so it cannot grow or be a `Vec`.
 #[derive(Drop)]
 pub struct Table<'a, E> {
     entries: &'a mut [E],
@@ -39,6 +39,7 @@ impl<'a, E: Extent + Copy> Table<'a, E> {
         if self.count == self.entries.len() {
             return Err(Full);
         }
+        // by index, since a proof knows nothing afterwards of what is written through `get_mut`
         self.entries[self.count] = extent;
         self.count += 1;
         Ok(())

@@ -67,7 +67,8 @@ fn add_next(
     Ok(range)
 }
 
-// Reads range after range into the table.
+// Reads range after range into the table; where a header stands is known once the range before it is read. (The call
+// below would have to argue its law at each way out of the loop.)
 fn load(file: &[u8], table: &mut Table<'_, LimeRange>) -> Result<usize, NotLoaded>
     ensures { Loads (lime (room table.old) file.now) table.old table.new result }
 {

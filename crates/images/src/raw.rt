@@ -2,7 +2,8 @@ ghost use Rattle.images.specs.Kinds.{raw_bounds, raw_places};
 
 use extents::{Extent, Stored, contains};
 
-// The one extent of a raw file that is not empty: address 0 to its length - 1.
+// The one extent of a raw file that is not empty: address 0 to its length - 1. A kind of its own, with less to hold than a
+// LiME range.
 #[derive(Clone, Copy, Debug, Default, PartialEq, Eq)]
 pub struct RawExtent {
     pub last: u64,

@@ -3,7 +3,8 @@ ghost use Rattle.paging.specs.Formats.{Format, Sound};
 
 use crate::entry::Entry;
 
-// How a kind of paging leads an address to a page.
+// How a kind of paging leads an address to a page. Each scheme has its own numbers, also where two are alike, so that one
+// can change and the others need not be argued again.
 pub trait Scheme {
     // The level of the root table; the last level is 1.
     const LEVELS: u8;

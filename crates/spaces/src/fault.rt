@@ -10,6 +10,7 @@ use std::fmt;
 pub struct Fault {
     pub depth: u8,
     pub address: u64,
+    // a byte, since the spaces of others have causes that we do not know
     pub cause: u8,
 }
 

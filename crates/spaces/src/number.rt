@@ -3,7 +3,7 @@ ghost use Rattle.spaces.specs.Maps.{own};
 
 use crate::fault::Fault;
 
-// A kind whose values have numbers.
+// A kind whose values have numbers. (Of a `From` generic code would know only that there is some number.)
 pub trait Numbered: Copy {
     ghost number: { Self → ℕ };
 

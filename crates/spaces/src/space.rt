@@ -20,6 +20,7 @@ pub trait Space {
     fn fill(&self, first: u64, out: &mut [u8]) -> (usize, Option<Fault>)
         ensures { Fills (shown (meaning self.now)) first out.old out.new result }
     {
+        // by index, since a proof knows nothing afterwards of what is written through `iter_mut`
         for n in 0..out.len() {
             let Some(at) = first.checked_add(n as u64) else {
                 return (n, None);

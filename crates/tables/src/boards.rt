@@ -52,6 +52,7 @@ pub(crate) fn goes(address: u64, size: u64) -> Result<Translation, Fault> {
     Ok(Translation { address, size })
 }
 
+// (Each crate of tests makes its faults as its tests write them.)
 pub(crate) fn fault(depth: u8, address: u64, cause: u8) -> Fault {
     Fault {
         depth,

@@ -1,4 +1,4 @@
-// What the tour prints of each step.
+// What the tour prints of each step. The runtime is passed along, as whatever prints must be given it.
 
 use extents::Table;
 use images::{LimeRange, NotLoaded};
