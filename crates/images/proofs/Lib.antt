@@ -1,4 +1,3 @@
-pub mod Tables
 pub mod Loading
 pub mod Separate
 pub mod Headers
