@@ -1,5 +1,5 @@
-use Rattle.spaces.proofs.Carrying.{locates}
+use Rattle.spaces.proofs.Arising.{arose}
 use Rattle.spaces.proofs.origin.locate.Goals as goal
 
 pub returns : goal.returns
-returns g c = locates (g.S.Space.meaning c.args.space.now) c.args.at c.byte.result c.byte.ensures
+returns g c = record { answer = c.byte.ensures; arose = λ f q n. arose (g.S.Space.meaning c.args.space.now) n c.args.at f cc }
