@@ -1,7 +1,7 @@
-use Rattle.std.specs.Prelude.{◌≡◌, ℕ, [], ◌∷◌, Ok, Err, Result}
-use Rattle.std.proofs.Common.{sym, ap, arith}
+use Rattle.std.specs.Prelude.{◌≡◌, ℕ, [], ◌∷◌, Err, Result}
+use Rattle.std.proofs.Common.{arith}
 use Rattle.spaces.specs.declared.fault.Fault.{Fault}
-use Rattle.spaces.specs.Maps.{own, owned}
+use Rattle.spaces.specs.Maps.{owned}
 use Rattle.spaces.specs.Rules.{Rule, Own, LawfulRule}
 use Rattle.spaces.specs.Patches.{Patches, LawfulPatches}
 use Rattle.spaces.specs.Piles.{Layer, plain, overlay, LawfulLayer, LawfulPile}
@@ -9,17 +9,9 @@ use Rattle.spaces.specs.Piles.{Layer, plain, overlay, LawfulLayer, LawfulPile}
 -- How a space's meaning is made, with the proof of its laws: a bottom from bytes and causes, a layer from a walk or
 -- from a rule that is shown to keep the laws. What is proved here needs no belief; what a pile is stands in Piles.
 
-pub err_err : {X : Type 0} (f g : Fault) → ◌≡◌ {A = Result X Fault} (Err f) (Err g) → f ≡ g
-err_err f g e = cc
-
--- a space's own fault, once more
-pub own_is : (a cause : ℕ) (f : Fault) → own a cause ≡ f → Own a f
-own_is a cause f e = (ap (λ (g : Fault). g.depth) (sym e), ap (λ (g : Fault). g.address) (sym e))
-
 -- a map of bytes and causes keeps a bottom's law
 pub owned_own : (a : ℕ) (w : Result ℕ ℕ) (f : Fault) → owned a w ≡ Err f → Own a f
-owned_own a (Ok b) f e = let z : ◌≡◌ {A = ℕ} 0 1 = cc in absurd (omega arith)
-owned_own a (Err cause) f e = own_is a cause f (err_err {X = ℕ} (own a cause) f e)
+owned_own a w f e = grind arith
 
 -- a bottom, by the byte or the cause at each address
 abbrev pub bottom : (ℕ → Result ℕ ℕ) → LawfulPile
