@@ -1,8 +1,7 @@
-use Rattle.std.proofs.Common.{◌≡◌, ℕ, List, ◌∷◌, ◌++◌, IsErrAnd, Ok, Err, Result, refl, ap, ◌∙◌}
-use Rattle.std.proofs.lemmas.Result.{err_from_is_err_and}
+use Rattle.std.proofs.Common.{◌≡◌, ℕ, List, ◌++◌, IsErrAnd, Ok, Err, Result, refl, arith}
 use Rattle.spaces.specs.declared.fault.Fault.{Fault}
-use Rattle.spaces.specs.Maps.{Answer, Map}
-use Rattle.spaces.specs.Walks.{Walk, give, fail, ask, after, asked, walked, found}
+use Rattle.spaces.specs.Maps.{Map}
+use Rattle.spaces.specs.Walks.{Walk, give, fail, ask, after, walked, found}
 
 -- what one walk finds, and another from there on
 abbrev pub onward : {X Y : Type 0} → Result X Fault → (X → Result Y Fault) → Result Y Fault
@@ -21,33 +20,19 @@ further (Err f, reads) k = (Err f, reads)
 pub walked_after : {X Y : Type 0} (a : ℕ) (w : Walk X) (k : X → Walk Y) (m : Map) → walked a (after w k) m ≡ further (walked a w m) (λ v. walked a (k v) m)
 walked_after a (give v) k m = refl
 walked_after a (fail c) k m = refl
-walked_after {X} {Y} a (ask x j) k m = step (m x) (λ b. walked_after a (j b) k m)
-  where
-    one_more : (t : Result X Fault × List ℕ)
-        → ◌≡◌ {A = Result Y Fault × List ℕ} ((further t (λ v. walked a (k v) m)).0, x ∷ (further t (λ v. walked a (k v) m)).1) (further (t.0, x ∷ t.1) (λ v. walked a (k v) m))
-    one_more (Ok v, reads) = refl
-    one_more (Err f, reads) = refl
-
-    step : (w : Answer) → ((b : ℕ) → walked a (after (j b) k) m ≡ further (walked a (j b) m) (λ v. walked a (k v) m))
-        → asked w x (λ b. walked a (after (j b) k) m) ≡ further (asked w x (λ b. walked a (j b) m)) (λ v. walked a (k v) m)
-    step (Ok b) ih = ap (λ (t : Result Y Fault × List ℕ). asked (Ok b) x (λ _. t)) (ih b) ∙ one_more (walked a (j b) m)
-    step (Err f) ih = refl
+walked_after a (ask x j) k m = let ih = λ (b : ℕ). walked_after a (j b) k m in grind (arith, ih)
 
 module _ {X Y : Type 0} (a : ℕ) (w : Walk X) (k : X → Walk Y) (m : Map) where
   pub after_there : (v : X) (reads : List ℕ) → walked a w m ≡ (Ok v, reads) → walked a (after w k) m ≡ past reads (walked a (k v) m)
-  after_there v reads e = walked_after a w k m ∙ ap (λ (t : Result X Fault × List ℕ). further t (λ v. walked a (k v) m)) e
+  after_there v reads e = grind (arith, walked_after a w k m)
 
   pub after_missing : (f : Fault) (reads : List ℕ) → walked a w m ≡ (Err f, reads) → walked a (after w k) m ≡ (Err f, reads)
-  after_missing f reads e = walked_after a w k m ∙ ap (λ (t : Result X Fault × List ℕ). further t (λ v. walked a (k v) m)) e
+  after_missing f reads e = grind (arith, walked_after a w k m)
 
 -- what is found does not depend on what was read
 pub found_after : {X Y : Type 0} (a : ℕ) (w : Walk X) (k : X → Walk Y) (m : Map) → found a (after w k) m ≡ onward (found a w m) (λ v. found a (k v) m)
-found_after {X} {Y} a w k m = ap (λ (t : Result Y Fault × List ℕ). t.0) (walked_after a w k m) ∙ step (found a w m)
-  where
-    step : (r : Result X Fault) → (further (r, (walked a w m).1) (λ v. walked a (k v) m)).0 ≡ onward r (λ v. found a (k v) m)
-    step (Ok v) = refl
-    step (Err f) = refl
+found_after a w k m = grind (arith, walked_after a w k m)
 
 -- what leaves by `?`
 pub left_by : {X : Type 0} (r : Result X Fault) (f : Fault) → IsErrAnd r (λ g. g ≡ f) → r ≡ Err f
-left_by r f h = let p = err_from_is_err_and r h in p.1 ∙ ap Err p.2
+left_by r f h = grind arith

@@ -1,11 +1,11 @@
-use Rattle.std.proofs.Common.{◌≡◌, ℕ, ◌⊎◌, List, ◌∷◌, Ok, Err, Result, refl, sym, ap, ◌∙◌, inl, inr, arith}
+use Rattle.std.proofs.Common.{◌≡◌, ℕ, ◌⊎◌, List, Ok, Err, Result, refl, inl, inr, arith}
 use mathlib.Core.List.{Memᴰ}
 use Rattle.spaces.specs.declared.fault.Fault.{Fault}
-use Rattle.spaces.specs.Maps.{Answer, Map, own, climbed}
+use Rattle.spaces.specs.Maps.{Answer, Map}
 use Rattle.spaces.specs.Rules.{Agree, Own, Climbs}
 use Rattle.spaces.specs.Walks.{Walk, give, fail, ask, asked, walked, EveryWalkIsLawful}
 use Rattle.spaces.specs.Piles.{walking, Pile, on, Lawful}
-use Rattle.spaces.proofs.Lawful.{err_err, own_is, on_lawful}
+use Rattle.spaces.proofs.Lawful.{on_lawful}
 
 -- Every layer that is described by a walk keeps both laws.
 
@@ -17,27 +17,22 @@ asked_first (Err f) x k = Memᴰ.head refl
 walk_footing : {X : Type 0} (a : ℕ) (w : Walk X) (m n : Map) → Agree (walked a w m).1 m n → walked a w m ≡ walked a w n
 walk_footing a (give v) m n h = refl
 walk_footing a (fail c) m n h = refl
-walk_footing {X} a (ask x k) m n h =
-    step (m x) h (λ b. walk_footing a (k b) m n) ∙ ap (λ (w : Answer). asked w x (λ b. walked a (k b) n)) (h x (asked_first (m x) x (λ b. walked a (k b) m)))
+walk_footing a (ask x k) m n h = rw (← h x (asked_first (m x) x _)) (step (m x) h (λ b. walk_footing a (k b) m n))
   where
     step : (w : Answer) → Agree (asked w x (λ b. walked a (k b) m)).1 m n → ((b : ℕ) → Agree (walked a (k b) m).1 m n → walked a (k b) m ≡ walked a (k b) n)
         → asked w x (λ b. walked a (k b) m) ≡ asked w x (λ b. walked a (k b) n)
-    step (Ok b) h ih = ap (λ (t : Result X Fault × List ℕ). asked (Ok b) x (λ _. t)) (ih b (λ y t. h y (Memᴰ.tail t)))
+    step (Ok b) h ih = let e = ih b (λ y t. h y (Memᴰ.tail t)) in cc
     step (Err f) h ih = refl
 
 walk_faults : (a : ℕ) (w : Walk ℕ) (m : Map) (f : Fault) → (walked a w m).0 ≡ Err f → Own a f ⊎ Climbs m (walked a w m).1 f
-walk_faults a (give v) m f e = let z : ◌≡◌ {A = ℕ} 0 1 = cc in absurd (omega arith)
-walk_faults a (fail c) m f e = inl (own_is a c f (err_err {X = ℕ} (own a c) f e))
+walk_faults a (give v) m f e = cc
+walk_faults a (fail c) m f e = inl (grind arith)
 walk_faults a (ask x k) m f e = step (m x) refl (λ b. walk_faults a (k b) m f) e
   where
     step : (w : Answer) → m x ≡ w → ((b : ℕ) → (walked a (k b) m).0 ≡ Err f → Own a f ⊎ Climbs m (walked a (k b) m).1 f)
         → (asked w x (λ b. walked a (k b) m)).0 ≡ Err f → Own a f ⊎ Climbs m (asked w x (λ b. walked a (k b) m)).1 f
-    step (Ok b) q ih e = more (ih b e)
-      where
-        more : Own a f ⊎ Climbs m (walked a (k b) m).1 f → Own a f ⊎ Climbs m (x ∷ (walked a (k b) m).1) f
-        more (inl o) = inl o
-        more (inr c) = inr (c.0, c.1, Memᴰ.tail c.2, c.3, c.4)
-    step (Err g) q ih e = inr (x, g, Memᴰ.head refl, q, sym (err_err {X = ℕ} (climbed g) f e))
+    step (Ok b) q ih e = elim (ih b e) [ inl o ↦ inl o | inr c ↦ inr (c.0, c.1, Memᴰ.tail c.2, c.3, c.4) ]
+    step (Err g) q ih e = inr (x, g, Memᴰ.head refl, q, cc)
 
 pub walk_lawful : EveryWalkIsLawful
 walk_lawful w = record { footing = λ m n a. walk_footing a (w a) m n; faults = λ m a f. walk_faults a (w a) m f }
