@@ -1,9 +1,10 @@
-use Rattle.std.specs.Prelude.{◌≡◌, ◌≤◌, ◌⊎◌, MatchResult, ℕ, zero, suc, ◌+◌, ◌-◌, Bool, cond, ◌&&◌, List, [], ◌∷◌, ◌++◌, length, Some, None, Ok, Err, Result, ◌==◌, nat_le, nat_lt}
+use Rattle.std.specs.Prelude.{◌≡◌, ◌≤◌, ◌⊎◌, MatchResult, ℕ, zero, suc, ◌+◌, ◌-◌, Bool, cond, ◌&&◌, List, [], ◌∷◌, ◌++◌, length, Some, None, Ok, Err, Option, Result, ◌==◌, nat_le, nat_lt}
 use Rattle.spaces.specs.declared.refusal.Refusal.{Refusal}
 use Rattle.spaces.specs.declared.refusal.Refusal.TheVariants.{HeaderCut, BadHeader, Overlap, TableFull}
 use Rattle.extents.specs.declared.table.Table.{Table}
 use Rattle.extents.specs.Tables.{held, room, Pushed, overlaps_any}
 use Rattle.endian.specs.Little.{number_at}
+use Rattle.images.specs.declared.lime.Header.{Header}
 use Rattle.images.specs.declared.range.LimeRange.{LimeRange}
 use Rattle.images.specs.Kinds.{lime_bounds}
 use Rattle.images.specs.Loads.{Load}
@@ -16,6 +17,11 @@ sound file place = number_at file place 4 == 0x4C694D45 && (number_at file (plac
 
 abbrev pub range_at : List ℕ → ℕ → LimeRange
 range_at file place = record { first = number_at file (place + 8) 8; last = number_at file (place + 16) 8; place = place + 32 }
+
+-- what the header at a place says, if the file has it whole
+abbrev pub header_in : List ℕ → ℕ → Option Header
+header_in file place = cond (nat_lt (length file) (place + 32)) None
+    (Some (record { magic = number_at file place 4; version = number_at file (place + 4) 4; first = number_at file (place + 8) 8; last = number_at file (place + 16) 8 }))
 
 -- the place behind a range's bytes
 abbrev pub end_of : LimeRange → ℕ

@@ -31,10 +31,8 @@ impl<E: Stored + Copy> Space for Image<'_, '_, E> {
     fn byte(&self, at: u64) -> Result<u8, Fault> {
         let extent = self.table.lookup(at).ok_or(Cause::NoExtent.at(at))?;
         let place = extent.place(at).ok_or(Cause::NotStored.at(at))?;
-        if place >= self.file.len() as u128 {
-            return Err(Cause::NotStored.at(at));
-        }
-        Ok(self.file[place as usize])
+        let byte = usize::try_from(place).ok().and_then(|i| self.file.get(i));
+        byte.copied().ok_or(Cause::NotStored.at(at))
     }
 
     fn edit(&mut self, depth: u8, edit: Edit<'_>) -> Result<(), Refusal> {

@@ -1,7 +1,7 @@
 ghost use Rattle.std.specs.Prelude.{◌≡◌, ◌<◌, min, length, MatchResult};
 ghost use Rattle.extents.specs.Tables.{held, room};
 ghost use Rattle.images.specs.Loads.{Loads};
-ghost use Rattle.images.specs.Lime.{header_at, next_range, Adds, end_of, lime};
+ghost use Rattle.images.specs.Lime.{header_in, header_at, next_range, Adds, end_of, lime};
 ghost use Rattle.images.specs.Shows.{ShowsRanges, StopsAt};
 
 use crate::load::NotLoaded;
@@ -14,28 +14,47 @@ const MAGIC: u32 = 0x4C69_4D45;
 
 const HEADER: usize = 32;
 
+// What a header says.
+#[derive(Clone, Copy)]
+struct Header {
+    magic: u32,
+    version: u32,
+    first: u64,
+    last: u64,
+}
+
+// The header at a place, or none if the file ends before it does.
+fn header_in(file: &[u8], place: usize) -> Option<Header>
+    ensures { result ≡ header_in file.now place }
+{
+    if file.get(place..)?.len() < HEADER {
+        return None;
+    }
+    Some(Header {
+        magic: u32_at(file, place)?,
+        version: u32_at(file, place + 4)?,
+        first: u64_at(file, place + 8)?,
+        last: u64_at(file, place + 16)?,
+    })
+}
+
 // The range whose header stands at a place.
 fn header_at(file: &[u8], place: usize) -> Result<LimeRange, Refusal>
-    requires { place < length file.now }
     ensures { result ≡ header_at file.now place }
 {
-    if file.len() - place < HEADER {
-        return Err(Refusal::HeaderCut);
-    }
-    let magic = u32_at(file, place).ok_or(Refusal::HeaderCut)?;
-    let version = u32_at(file, place + 4).ok_or(Refusal::HeaderCut)?;
-    let first = u64_at(file, place + 8).ok_or(Refusal::HeaderCut)?;
-    let last = u64_at(file, place + 16).ok_or(Refusal::HeaderCut)?;
-    if magic != MAGIC || version != 1 || last < first {
+    let header = header_in(file, place).ok_or(Refusal::HeaderCut)?;
+    if header.magic != MAGIC || header.version != 1 || header.last < header.first {
         return Err(Refusal::BadHeader);
     }
-    let place = (place + HEADER) as u64;
-    Ok(LimeRange { first, last, place })
+    Ok(LimeRange {
+        first: header.first,
+        last: header.last,
+        place: (place + HEADER) as u64,
+    })
 }
 
 // The same, unless it overlaps one that the table holds.
 fn next_range(file: &[u8], place: usize, table: &Table<'_, LimeRange>) -> Result<LimeRange, Refusal>
-    requires { place < length file.now }
     ensures { result ≡ next_range file.now place (held table.now) }
 {
     let range = header_at(file, place)?;
@@ -59,7 +78,6 @@ fn add_next(
     place: usize,
     table: &mut Table<'_, LimeRange>,
 ) -> Result<LimeRange, Refusal>
-    requires { place < length file.now }
     ensures { Adds (next_range file.now place (held table.old)) table.old table.new result }
 {
     let range = next_range(file, place, table)?;

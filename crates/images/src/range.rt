@@ -29,10 +29,7 @@ impl Stored for LimeRange {
     ghost places = { lime_places };
 
     fn place(&self, at: u64) -> Option<u128> {
-        if contains(self, at) {
-            return Some(self.place as u128 + (at - self.first) as u128);
-        }
-        None
+        contains(self, at).then(|| self.place as u128 + (at - self.first) as u128)
     }
 }
 

@@ -25,9 +25,6 @@ impl Stored for RawExtent {
     ghost places = { raw_places };
 
     fn place(&self, at: u64) -> Option<u128> {
-        if contains(self, at) {
-            return Some(at as u128);
-        }
-        None
+        contains(self, at).then_some(at as u128)
     }
 }

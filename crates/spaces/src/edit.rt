@@ -16,7 +16,7 @@ impl<'a> Edit<'a> {
         ensures { result ≡ first_of (meant self.entry) }
     {
         match self {
-            Edit::Set { first, bytes: _ } | Edit::Clear { first, count: _ } => first,
+            Edit::Set { first, .. } | Edit::Clear { first, .. } => first,
         }
     }
 
@@ -35,7 +35,7 @@ impl<'a> Edit<'a> {
         ensures { result.now ≡ bytes_of (meant self.entry) }
     {
         match self {
-            Edit::Set { first: _, bytes } => bytes,
+            Edit::Set { bytes, .. } => bytes,
             Edit::Clear { .. } => &[],
         }
     }

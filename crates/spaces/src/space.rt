@@ -20,13 +20,12 @@ pub trait Space {
     fn fill(&self, first: u64, out: &mut [u8]) -> (usize, Option<Fault>)
         ensures { Fills (shown (meaning self.now)) first out.old out.new result }
     {
-        // by index, since a proof knows nothing afterwards of what is written through `iter_mut`
-        for n in 0..out.len() {
+        for (n, slot) in out.iter_mut().enumerate() {
             let Some(at) = first.checked_add(n as u64) else {
                 return (n, None);
             };
             match self.byte(at) {
-                Ok(b) => out[n] = b,
+                Ok(b) => *slot = b,
                 Err(f) => return (n, Some(f)),
             }
         }

@@ -1,17 +1,11 @@
-use crate::boards::{Board, KIB_4, WAY, fault, goes, laid};
+use crate::boards::{Board, ENTRIES, KIB_4, WAY, fault, goes, laid};
 use paging::{FourLevel, Paging};
 use spaces::{Fault, Refusal, Space, Watched};
 use std::test::Fail;
 
-// Under root 0x1000 its entries are at 0x1000 + 8 * 1, 0x2000 + 8 * 2, 0x3000 + 8 * 3 and 0x4000 + 8 * 4. They lead
-// to the page at 0x9000, which has an `x` at 0x567; the page at 0xa000 has a `y` there.
+// The way leads to the page at 0x9000, which has an `x` at 0x567; the page at 0xa000 has a `y` there.
 fn tables() -> Result<Board, Refusal> {
-    let mut board = laid::<u64>(&[
-        (0x1008, 0x2003),
-        (0x2010, 0x3003),
-        (0x3018, 0x4003),
-        (0x4020, 0x9003),
-    ])?;
+    let mut board = laid(&ENTRIES)?;
     board.set(0, 0x9567, b"x")?;
     board.set(0, 0xa567, b"y")?;
     Ok(board)

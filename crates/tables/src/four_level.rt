@@ -1,21 +1,20 @@
-use crate::boards::{Board, GIB_1, KIB_4, MIB_2, WAY, fault, goes, laid};
+use crate::boards::{ENTRIES, GIB_1, KIB_4, MIB_2, WAY, Way, fault, goes, laid, translates};
 use paging::{FourLevel, Paging};
-use spaces::{Refusal, Space};
+use spaces::Space;
 use std::test::Fail;
 
-// Under root 0x1000 its entries are at 0x1000 + 8 * 1, 0x2000 + 8 * 2, 0x3000 + 8 * 3 and 0x4000 + 8 * 4.
-fn tables() -> Result<Board, Refusal> {
-    laid::<u64>(&[
-        (0x1008, 0x2003),
-        (0x2010, 0x3003),
-        (0x3018, 0x4003),
-        (0x4020, 0x9003),
-    ])
+fn way() -> Way<'static, FourLevel, u64> {
+    Way {
+        scheme: FourLevel,
+        cr3: 0x1000,
+        at: WAY,
+        tables: &ENTRIES,
+    }
 }
 
 #[test]
 fn four_levels_lead_to_a_page(rt: HostRuntime) -> Result<(), Fail> {
-    let paging = Paging::new(FourLevel, 0x1000, tables()?);
+    let paging = way().paging()?;
     let cases = [
         (0x80_8060_4000, goes(0x9000, KIB_4)),
         (WAY, goes(0x9567, KIB_4)),
@@ -30,14 +29,13 @@ fn four_levels_lead_to_a_page(rt: HostRuntime) -> Result<(), Fail> {
         (0x7f_ffff_ffff, Err(fault(2, 0x1000, 0x77))),
         (0x100_0000_0000, Err(fault(2, 0x1010, 0x77))),
     ];
-    for (at, expected) in cases {
-        assert_eq!(rt; paging.translate(at), expected);
-    }
+    translates(&rt, &paging, &cases);
     Ok(())
 }
 
 #[test]
 fn an_entry_of_four_levels_breaks_the_walk(rt: HostRuntime) -> Result<(), Fail> {
+    let way = way();
     // every bit but bit 0, without which an entry is not present
     let entries = [
         (0x1008, 0x14),
@@ -45,26 +43,17 @@ fn an_entry_of_four_levels_breaks_the_walk(rt: HostRuntime) -> Result<(), Fail> 
         (0x3018, 0x12),
         (0x4020, 0x11),
     ];
-    for (place, cause) in entries {
-        let mut board = tables()?;
-        board.set(0, place, b"\xfe\xff\xff\xff\xff\xff\xff\xff")?;
-        let paging = Paging::new(FourLevel, 0x1000, board);
-        assert_eq!(rt; paging.translate(WAY), Err(fault(0, WAY, cause)));
-    }
+    way.breaks_at_entries(&rt, b"\xfe\xff\xff\xff\xff\xff\xff\xff", &entries)?;
     // one byte of an entry is missing: its first, one in the middle, its last
-    for place in [
+    let bytes = [
         0x1008, 0x100c, 0x2011, 0x2017, 0x301b, 0x3018, 0x4024, 0x4027,
-    ] {
-        let mut board = tables()?;
-        board.clear(0, place, 1)?;
-        let paging = Paging::new(FourLevel, 0x1000, board);
-        assert_eq!(rt; paging.translate(WAY), Err(fault(2, place, 0x77)));
-    }
+    ];
+    way.breaks_at_bytes(&rt, &bytes)?;
     // an entry is read whole, the lowest byte first, before anything of it counts
-    let mut board = tables()?;
+    let mut board = laid(way.tables)?;
     board.set(0, 0x2010, b"\xfe")?;
     board.clear(0, 0x2013, u64::MAX - 0x2013)?;
-    let paging = Paging::new(FourLevel, 0x1000, board);
+    let paging = way.over(board);
     assert_eq!(rt; paging.translate(WAY), Err(fault(2, 0x2013, 0x77)));
     Ok(())
 }
@@ -114,9 +103,7 @@ fn addresses_have_a_lower_and_an_upper_half(rt: HostRuntime) -> Result<(), Fail>
             Err(fault(0, 0xffff_0000_0000_0000, 0x04)),
         ),
     ];
-    for (at, expected) in cases {
-        assert_eq!(rt; paging.translate(at), expected);
-    }
+    translates(&rt, &paging, &cases);
     // past the last address a fill has nothing to read, and there is no fault
     let mut out = *b"....";
     assert_eq!(rt; paging.fill(u64::MAX - 1, &mut out), (2, None));
@@ -160,9 +147,7 @@ fn larger_pages_and_unread_bits(rt: HostRuntime) -> Result<(), Fail> {
         (0xc021_2345, goes(0x81_2345, MIB_2)),
         (0xc000_0000, Err(fault(2, 0x5000, 0x77))),
     ];
-    for (at, expected) in cases {
-        assert_eq!(rt; paging.translate(at), expected);
-    }
+    translates(&rt, &paging, &cases);
     Ok(())
 }
 

@@ -1,6 +1,6 @@
-use crate::boards::{Board, KIB_4, MIB_2, fault, goes, laid};
+use crate::boards::{KIB_4, MIB_2, Way, fault, goes, laid, translates};
 use paging::{Pae, Paging};
-use spaces::{Refusal, Space};
+use spaces::Space;
 use std::test::Fail;
 
 // Its index is 3 at level 3, 0xb at level 2 (0xb * 2 MiB = 0x160_0000) and 2 at level 1, and 0x345 is left.
@@ -8,19 +8,24 @@ const WAY: u64 = 0xc160_2345;
 
 // Under root 0x1020 its entries are at 0x1020 + 8 * 3, 0x8_7654_3000 + 8 * 0xb and 0xf_ffff_ffff_f000 + 8 * 2. The last
 // address has index 3 and then 0x1ff twice, and 8 * 0x1ff is 0xff8; of those two entries the flags are bit 0 alone.
-fn tables() -> Result<Board, Refusal> {
-    laid::<u64>(&[
-        (0x1038, 0x8_7654_3003),
-        (0x8_7654_3058, 0xf_ffff_ffff_f003),
-        (0xf_ffff_ffff_f010, 0xa_bcde_f012_3003),
-        (0x8_7654_3ff8, 0x9001),
-        (0x9ff8, 0x7001),
-    ])
+fn way() -> Way<'static, Pae, u64> {
+    Way {
+        scheme: Pae,
+        cr3: 0x1020,
+        at: WAY,
+        tables: &[
+            (0x1038, 0x8_7654_3003),
+            (0x8_7654_3058, 0xf_ffff_ffff_f003),
+            (0xf_ffff_ffff_f010, 0xa_bcde_f012_3003),
+            (0x8_7654_3ff8, 0x9001),
+            (0x9ff8, 0x7001),
+        ],
+    }
 }
 
 #[test]
 fn three_levels_lead_to_a_page(rt: HostRuntime) -> Result<(), Fail> {
-    let paging = Paging::new(Pae, 0x1020, tables()?);
+    let paging = way().paging()?;
     let cases = [
         (0xc160_2000, goes(0xa_bcde_f012_3000, KIB_4)),
         (WAY, goes(0xa_bcde_f012_3345, KIB_4)),
@@ -39,26 +44,20 @@ fn three_levels_lead_to_a_page(rt: HostRuntime) -> Result<(), Fail> {
         (0x1_c160_2345, Err(fault(0, 0x1_c160_2345, 0x04))),
         (u64::MAX, Err(fault(0, u64::MAX, 0x04))),
     ];
-    for (at, expected) in cases {
-        assert_eq!(rt; paging.translate(at), expected);
-    }
+    translates(&rt, &paging, &cases);
     Ok(())
 }
 
 #[test]
 fn an_entry_of_three_levels_breaks_the_walk(rt: HostRuntime) -> Result<(), Fail> {
+    let way = way();
     let entries = [
         (0x1038, 0x13),
         (0x8_7654_3058, 0x12),
         (0xf_ffff_ffff_f010, 0x11),
     ];
     // every bit but bit 0, without which an entry is not present
-    for (place, cause) in entries {
-        let mut board = tables()?;
-        board.set(0, place, b"\xfe\xff\xff\xff\xff\xff\xff\xff")?;
-        let paging = Paging::new(Pae, 0x1020, board);
-        assert_eq!(rt; paging.translate(WAY), Err(fault(0, WAY, cause)));
-    }
+    way.breaks_at_entries(&rt, b"\xfe\xff\xff\xff\xff\xff\xff\xff", &entries)?;
     let bytes = [
         0x1038,
         0x103c,
@@ -68,17 +67,12 @@ fn an_entry_of_three_levels_breaks_the_walk(rt: HostRuntime) -> Result<(), Fail>
         0xf_ffff_ffff_f012,
     ];
     // one byte of an entry is missing: its first, one in the middle, its last
-    for place in bytes {
-        let mut board = tables()?;
-        board.clear(0, place, 1)?;
-        let paging = Paging::new(Pae, 0x1020, board);
-        assert_eq!(rt; paging.translate(WAY), Err(fault(2, place, 0x77)));
-    }
+    way.breaks_at_bytes(&rt, &bytes)?;
     // an entry is read whole, the lowest byte first, before anything of it counts
-    let mut board = tables()?;
+    let mut board = laid(way.tables)?;
     board.set(0, 0x1038, b"\xfe")?;
     board.clear(0, 0x103d, 3)?;
-    let paging = Paging::new(Pae, 0x1020, board);
+    let paging = way.over(board);
     assert_eq!(rt; paging.translate(WAY), Err(fault(2, 0x103d, 0x77)));
     Ok(())
 }
@@ -130,8 +124,6 @@ fn pages_of_2_mib_and_unread_bits(rt: HostRuntime) -> Result<(), Fail> {
         (0x40_4bcd, goes(0x1_2345_6789_abcd, KIB_4)),
         (0x40_5000, Err(fault(2, 0x3028, 0x77))),
     ];
-    for (at, expected) in cases {
-        assert_eq!(rt; paging.translate(at), expected);
-    }
+    translates(&rt, &paging, &cases);
     Ok(())
 }

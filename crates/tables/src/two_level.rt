@@ -1,6 +1,6 @@
-use crate::boards::{Board, KIB_4, MIB_4, fault, goes, laid};
+use crate::boards::{KIB_4, MIB_4, Way, fault, goes, laid, translates};
 use paging::{Paging, TwoLevel};
-use spaces::{Refusal, Space};
+use spaces::Space;
 use std::test::Fail;
 
 // Its index is 0x302 at level 2 (0x302 * 4 MiB = 0xc080_0000) and 1 at level 1, and 0x234 is left.
@@ -8,18 +8,23 @@ const WAY: u64 = 0xc080_1234;
 
 // Under root 0x1000 its entries are at 0x1000 + 4 * 0x302 and 0xf000_5000 + 4 * 1. The last address has index 0x3ff at
 // both levels, and 4 * 0x3ff is 0xffc; of its entries the flags are bit 0 alone.
-fn tables() -> Result<Board, Refusal> {
-    laid::<u32>(&[
-        (0x1c08, 0xf000_5003),
-        (0xf000_5004, 0x9abc_d003),
-        (0x1ffc, 0x6001),
-        (0x6ffc, 0xffff_f001),
-    ])
+fn way() -> Way<'static, TwoLevel, u32> {
+    Way {
+        scheme: TwoLevel,
+        cr3: 0x1000,
+        at: WAY,
+        tables: &[
+            (0x1c08, 0xf000_5003),
+            (0xf000_5004, 0x9abc_d003),
+            (0x1ffc, 0x6001),
+            (0x6ffc, 0xffff_f001),
+        ],
+    }
 }
 
 #[test]
 fn two_levels_lead_to_a_page(rt: HostRuntime) -> Result<(), Fail> {
-    let paging = Paging::new(TwoLevel, 0x1000, tables()?);
+    let paging = way().paging()?;
     let cases = [
         (0xc080_1000, goes(0x9abc_d000, KIB_4)),
         (WAY, goes(0x9abc_d234, KIB_4)),
@@ -37,40 +42,34 @@ fn two_levels_lead_to_a_page(rt: HostRuntime) -> Result<(), Fail> {
         (0x1_c080_1234, Err(fault(0, 0x1_c080_1234, 0x04))),
         (u64::MAX, Err(fault(0, u64::MAX, 0x04))),
     ];
-    for (at, expected) in cases {
-        assert_eq!(rt; paging.translate(at), expected);
-    }
+    translates(&rt, &paging, &cases);
     Ok(())
 }
 
 #[test]
 fn an_entry_of_two_levels_breaks_the_walk(rt: HostRuntime) -> Result<(), Fail> {
+    let way = way();
     // every bit but bit 0, without which an entry is not present
-    for (place, cause) in [(0x1c08, 0x12), (0xf000_5004, 0x11)] {
-        let mut board = tables()?;
-        board.set(0, place, b"\xfe\xff\xff\xff")?;
-        let paging = Paging::new(TwoLevel, 0x1000, board);
-        assert_eq!(rt; paging.translate(WAY), Err(fault(0, WAY, cause)));
-    }
+    way.breaks_at_entries(
+        &rt,
+        b"\xfe\xff\xff\xff",
+        &[(0x1c08, 0x12), (0xf000_5004, 0x11)],
+    )?;
     // one byte of an entry is missing: its first, one in the middle, its last
-    for place in [
+    let bytes = [
         0x1c08,
         0x1c0a,
         0x1c0b,
         0xf000_5004,
         0xf000_5005,
         0xf000_5007,
-    ] {
-        let mut board = tables()?;
-        board.clear(0, place, 1)?;
-        let paging = Paging::new(TwoLevel, 0x1000, board);
-        assert_eq!(rt; paging.translate(WAY), Err(fault(2, place, 0x77)));
-    }
+    ];
+    way.breaks_at_bytes(&rt, &bytes)?;
     // an entry is read whole, the lowest byte first, before anything of it counts
-    let mut board = tables()?;
+    let mut board = laid(way.tables)?;
     board.set(0, 0xf000_5004, b"\xfe")?;
     board.clear(0, 0xf000_5005, 2)?;
-    let paging = Paging::new(TwoLevel, 0x1000, board);
+    let paging = way.over(board);
     assert_eq!(rt; paging.translate(WAY), Err(fault(2, 0xf000_5005, 0x77)));
     Ok(())
 }
@@ -97,9 +96,7 @@ fn pages_of_4_mib_and_unread_bits(rt: HostRuntime) -> Result<(), Fail> {
         (0xc0_5abc, goes(0x7654_3abc, KIB_4)),
         (0xc0_6000, Err(fault(2, 0x2018, 0x77))),
     ];
-    for (at, expected) in cases {
-        assert_eq!(rt; paging.translate(at), expected);
-    }
+    translates(&rt, &paging, &cases);
     let paging = Paging::new(
         TwoLevel,
         u64::MAX,
