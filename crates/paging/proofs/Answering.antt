@@ -1,65 +1,50 @@
-use Rattle.std.proofs.Common.{◌≡◌, ℕ, ◌+◌, ◌*◌, ◌≤◌, Bool, true, false, cond, ◌⊎◌, List, [], ◌∷◌, ◌++◌, length, Ok, Err, Result, sym, refl, ap, ◌∙◌, inl, inr, append-nil, arith, length-append}
+use Rattle.std.proofs.Common.{◌≡◌, ℕ, ◌+◌, ◌*◌, ◌≤◌, Bool, true, false, ◌⊎◌, List, [], ◌∷◌, ◌++◌, length, Ok, Err, Result, sym, refl, ◌∙◌, inl, inr, append-nil, arith, length-append}
 use Rattle.spaces.specs.declared.fault.Fault.{Fault}
-use Rattle.paging.specs.declared.cause.PagingCause.TheVariants.{Unlawful}
-use Rattle.paging.specs.Causes.{cause_number}
-use Rattle.spaces.specs.Maps.{Map, Answer, own, raised}
-use Rattle.spaces.specs.Walks.{give, fail, ask, asked, walked, found, rule_of}
-use Rattle.spaces.proofs.Sequences.{past, after_there, after_missing, found_after}
+use Rattle.spaces.specs.Maps.{Map, raised}
+use Rattle.spaces.specs.Walks.{give, ask, walked, found, rule_of}
+use Rattle.spaces.proofs.Sequences.{after_there, after_missing, found_after}
 use Rattle.paging.specs.declared.entry.Page.{Page}
 use Rattle.paging.specs.declared.translation.Translation.{Translation}
 use Rattle.paging.specs.Formats.{Format, Sound}
-use Rattle.paging.specs.Paged.{descend, page_of, final, translation, paged}
-use Rattle.paging.specs.Translations.{Leads, Stops, Translates, Fails, unlawful, stops, Answers}
+use Rattle.paging.specs.Paged.{page_of, final, translation, paged}
+use Rattle.paging.specs.Translations.{Translates, Fails, unlawful, stops, Answers}
 use Rattle.paging.specs.Layers.{Shows, Translated}
 use Rattle.paging.proofs.Lengths.{leads_long, stops_long}
-use Rattle.paging.proofs.Ways.{leads_walked, stops_walked, way, leads_alike}
+use Rattle.paging.proofs.Ways.{leads_walked, stops_walked, Way, way, leads_alike}
 
 -- The whole walk of an address is the manual's translation.
 
 module _ (p : Format) (m : Map) (cr3 a : ℕ) where
-  tested : (b : Bool) → p.lawful a ≡ b → walked a (page_of p cr3 a) m ≡ walked a (cond b (descend p a p.levels (p.root cr3)) (fail (cause_number Unlawful))) m
-  tested b q = ap (λ (b : Bool). walked a (cond b (descend p a p.levels (p.root cr3)) (fail (cause_number Unlawful))) m) q
-
   page_found : {reads : List ℕ} {pg : Page} → Translates p m cr3 a reads pg → walked a (page_of p cr3 a) m ≡ (Ok pg, reads)
-  page_found t = tested true t.lawful ∙ leads_walked p m a t.chain
+  page_found t = rw t.lawful (leads_walked p m a t.chain)
 
   fault_found : {reads : List ℕ} {f : Fault} → Fails p m cr3 a reads f → walked a (page_of p cr3 a) m ≡ (Err f, reads)
-  fault_found (unlawful q) = tested false q
-  fault_found (stops q c) = tested true q ∙ stops_walked p m a c
+  fault_found (unlawful q) = rw q
+  fault_found (stops q c) = rw q (stops_walked p m a c)
 
   translation_found : {reads : List ℕ} {pg : Page} → Translates p m cr3 a reads pg → walked a (translation p cr3 a) m ≡ (Ok (final pg a), reads)
-  translation_found {reads} {pg} t =
-      after_there a (page_of p cr3 a) (λ pg. give (final pg a)) m pg reads (page_found t) ∙ ap (λ (reads : List ℕ). (Ok (final pg a), reads)) (append-nil reads)
+  translation_found {reads} {pg} t = rw (after_there a (page_of p cr3 a) (λ pg. give (final pg a)) m pg reads (page_found t), append-nil)
 
   translation_missing : {reads : List ℕ} {f : Fault} → Fails p m cr3 a reads f → walked a (translation p cr3 a) m ≡ (Err f, reads)
-  translation_missing {reads} {f} t = after_missing a (page_of p cr3 a) (λ pg. give (final pg a)) m f reads (fault_found t)
-
-  byte_below : (w : Answer) (x : ℕ) → asked w x (λ b. (Ok b, [])) ≡ (raised w, x ∷ [])
-  byte_below (Ok b) x = refl
-  byte_below (Err f) x = refl
+  translation_missing t = after_missing a (page_of p cr3 a) _ m _ _ (fault_found t)
 
   pub byte_found : {reads : List ℕ} {pg : Page} → Translates p m cr3 a reads pg → walked a (paged p cr3 a) m ≡ (raised (m (final pg a).address), reads ++ ((final pg a).address ∷ []))
-  byte_found {reads} {pg} t =
-      after_there a (translation p cr3 a) (λ t. ask t.address give) m (final pg a) reads (translation_found t)
-      ∙ ap (past reads) (byte_below (m (final pg a).address) (final pg a).address)
+  byte_found {reads} {pg} t = grind (arith, after_there a (translation p cr3 a) (λ t. ask t.address give) m (final pg a) reads (translation_found t))
 
   pub byte_missing : {reads : List ℕ} {f : Fault} → Fails p m cr3 a reads f → walked a (paged p cr3 a) m ≡ (Err f, reads)
-  byte_missing {reads} {f} t = after_missing a (translation p cr3 a) (λ t. ask t.address give) m f reads (translation_missing t)
+  byte_missing t = after_missing a (translation p cr3 a) _ m _ _ (translation_missing t)
 
   -- An address translates, or something is missing.
   abbrev Outcome : Type 0
   Outcome = ((reads : List ℕ) × (pg : Page) × Translates p m cr3 a reads pg) ⊎ ((reads : List ℕ) × (f : Fault) × Fails p m cr3 a reads f)
 
   outcome : Sound p → Outcome
-  outcome sound = by (p.lawful a) refl
+  outcome sound = by (p.lawful a) refl (way p m a sound p.levels (p.root cr3) sound.some (omega arith))
     where
-      on : p.lawful a ≡ true → ((reads : List ℕ) × (pg : Page) × Leads p m a p.levels (p.root cr3) reads pg) ⊎ ((reads : List ℕ) × (f : Fault) × Stops p m a p.levels (p.root cr3) reads f) → Outcome
-      on q (inl c) = inl (c.0, c.1, record { lawful = q; chain = c.2 })
-      on q (inr c) = inr (c.0, c.1, stops q c.2)
-
-      by : (b : Bool) → p.lawful a ≡ b → Outcome
-      by true q = on q (way p m a sound p.levels (p.root cr3) sound.some (omega arith))
-      by false q = inr ([], own a (cause_number Unlawful), unlawful q)
+      by : (b : Bool) → p.lawful a ≡ b → Way p m a p.levels (p.root cr3) → Outcome
+      by true q (inl c) = inl (_, c.1, record { lawful = q; chain = c.2 })
+      by true q (inr c) = inr (_, c.1, stops q c.2)
+      by false q w = inr (_, _, unlawful q)
 
   pub shows : Sound p → Shows p m cr3 a
   shows sound = record {
@@ -69,34 +54,25 @@ module _ (p : Format) (m : Map) (cr3 a : ℕ) where
   }
     where
       by : Outcome → length (rule_of (paged p cr3) m a).1 ≤ p.levels * p.width + 1
-      by (inl c) = rw (byte_found c.2) (simp length-append (omega (arith, leads_long p m a c.2.chain)))
-      by (inr c) = rw (byte_missing c.2) (missing c.2)
-        where
-          missing : {reads : List ℕ} {f : Fault} → Fails p m cr3 a reads f → length reads ≤ p.levels * p.width + 1
-          missing (unlawful q) = omega arith
-          missing (stops q c) = omega (arith, stops_long p m a c)
+      by (inl c) = rw (byte_found c.2) (omega (arith, length-append {A = ℕ}, leads_long p m a c.2.chain))
+      by (inr (reads, f, unlawful q)) = rw (byte_missing (unlawful q)) (omega arith)
+      by (inr (reads, f, stops q c)) = rw (byte_missing (stops q c)) (omega (arith, stops_long p m a c))
 
   answers : Sound p → (r : Result Translation Fault) → r ≡ found a (translation p cr3 a) m → Answers p m cr3 a r
   answers sound r e = record {
     page = λ t q. page t q (outcome sound);
-    only_page = λ reads pg t. there t;
+    only_page = λ reads pg t. grind (arith, translation_found t);
     fault = λ f q. fault f q (outcome sound);
-    only_fault = λ reads f t. missing t;
+    only_fault = λ reads f t. grind (arith, translation_missing t);
   }
     where
-      there : {reads : List ℕ} {pg : Page} → Translates p m cr3 a reads pg → r ≡ Ok (final pg a)
-      there t = e ∙ ap (λ (w : Result Translation Fault × List ℕ). w.0) (translation_found t)
-
-      missing : {reads : List ℕ} {f : Fault} → Fails p m cr3 a reads f → r ≡ Err f
-      missing t = e ∙ ap (λ (w : Result Translation Fault × List ℕ). w.0) (translation_missing t)
-
       page : (t : Translation) → r ≡ Ok t → Outcome → (reads : List ℕ) × (pg : Page) × Translates p m cr3 a reads pg × (t ≡ final pg a)
-      page t q (inl c) = let s = there c.2 in (c.0, c.1, c.2, cc)
-      page t q (inr c) = let s = missing c.2 in cc
+      page t q (inl c) = (c.0, c.1, c.2, grind (arith, translation_found c.2))
+      page t q (inr c) = grind (arith, translation_missing c.2)
 
       fault : (f : Fault) → r ≡ Err f → Outcome → (reads : List ℕ) × Fails p m cr3 a reads f
-      fault f q (inl c) = let s = there c.2 in cc
-      fault f q (inr c) = let s : c.1 ≡ f = (let t = missing c.2 in cc) in (c.0, rw (← s) c.2)
+      fault f q (inl c) = grind (arith, translation_found c.2)
+      fault f q (inr c) = grind (arith, translation_missing c.2)
 
 -- A call that walks to a page translates.
 
@@ -110,7 +86,7 @@ module _ (p : Format) (m : Map) (cr3 a : ℕ) (sound : Sound p) where
   }
 
   pub page_missing : (r : Result Translation Fault) (f : Fault) → r ≡ Err f → Err f ≡ found a (page_of p cr3 a) m → Translated p m cr3 a r
-  page_missing r f e q = translated r (e ∙ sym (rw (← q) at (found_after a (page_of p cr3 a) (λ pg. give (final pg a)) m)))
+  page_missing r f e q = translated r (grind (arith, found_after a (page_of p cr3 a) (λ pg. give (final pg a)) m))
 
   pub page_there : (pg : Page) (t : Translation) → t ≡ final pg a → Ok pg ≡ found a (page_of p cr3 a) m → Translated p m cr3 a (Ok t)
-  page_there pg t e q = translated (Ok t) (ap Ok e ∙ sym (rw (← q) at (found_after a (page_of p cr3 a) (λ pg. give (final pg a)) m)))
+  page_there pg t e q = translated (Ok t) (grind (arith, found_after a (page_of p cr3 a) (λ pg. give (final pg a)) m))
