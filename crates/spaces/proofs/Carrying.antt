@@ -1,18 +1,10 @@
-use Rattle.std.proofs.Common.{◌≡◌, ℕ, [], ◌∷◌, None, arith}
+use Rattle.std.proofs.Common.{◌≡◌, ℕ, [], ◌∷◌, arith}
 use Rattle.spaces.specs.Maps.{Answer}
-use Rattle.spaces.specs.Reads.{Got, then_got}
 use Rattle.spaces.specs.Piles.{Pile, shown, LawfulPile}
-use Rattle.spaces.specs.Edits.{Edit, edited, Outcome, Edits}
+use Rattle.spaces.specs.Edits.{Edit, Outcome, Edits}
 use Rattle.spaces.specs.CallLaws.{Watches}
 use Rattle.spaces.proofs.PileEdits.{pile_edit_laws}
 use Rattle.spaces.proofs.OffTrail.{kept_off_trail}
-
-abbrev nothing : Got
-nothing = record { bytes = []; fault = None }
-
--- a read of one address tells its answer
-one_answer : (v w : Answer) → then_got v nothing ≡ then_got w nothing → v ≡ w
-one_answer v w e = grind arith
 
 pub watches : (p : LawfulPile) (new : Pile) (k : ℕ) (e : Edit) (at : ℕ) (before after : Answer) (r : Outcome)
     → before ≡ shown p.pile at → Edits p.pile new k e r → after ≡ shown new at
@@ -22,5 +14,5 @@ watches p new k e at before after r b d a = record {
   laws = rw (d.answer, d.pile) (pile_edit_laws p k e);
   before = b;
   after = a;
-  kept = λ h. let q = one_answer (shown p.pile at) (shown (edited p.pile k e) at) (kept_off_trail p k e (at ∷ []) h).answer in cc;
+  kept = λ h. let q = (kept_off_trail p k e (at ∷ []) h).answer in grind arith;
 }
