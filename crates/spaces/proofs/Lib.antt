@@ -10,6 +10,5 @@ pub mod Overlaid
 pub mod Arising
 pub mod Resting
 pub mod OffTrail
-pub mod Carrying
 pub mod Sequences
 pub mod Below
