@@ -6,7 +6,8 @@ use crate::extent::{Extent, contains, overlap};
 #[derive(Clone, Copy, Debug, PartialEq, Eq)]
 pub struct Full;
 
-// Extents in the caller's memory: the first `count` entries of a slice. The memory is lent, so it cannot grow or be a `Vec`.
+// Extents in the caller's memory: the first `count` entries of a slice. The memory is lent, so it is no `Vec`; and contracts
+// speak of all of it, so no model hides it.
 #[derive(Drop)]
 pub struct Table<'a, E> {
     entries: &'a mut [E],

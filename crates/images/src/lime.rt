@@ -85,8 +85,9 @@ fn add_next(
     Ok(range)
 }
 
-// Reads range after range into the table; where a header stands is known once the range before it is read. (The call
-// below would have to argue its law at each way out of the loop.)
+// Reads range after range into the table. A `while`, since a header's place is known only from the range before it. The
+// `match` leaves the loop in as few lines as a closure would. Its caller adds what this means for the image: here that would
+// have to be argued at each way out.
 fn load(file: &[u8], table: &mut Table<'_, LimeRange>) -> Result<usize, NotLoaded>
     ensures { Loads (lime (room table.old) file.now) table.old table.new result }
 {

@@ -19,6 +19,7 @@ impl Space for Ramp {
         if at < self.length {
             return Ok((at % 256) as u8);
         }
+        // a number, as the cause of a space that nobody here knows
         Err(Fault::own(at, 0x77))
     }
 

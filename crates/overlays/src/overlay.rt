@@ -30,6 +30,7 @@ impl<S: Space> Space for Overlay<S> {
     ghost lawful = { λ s. on_lawful (overlay (held s.patches)) _ (held_lawful s.patches) (S.Space.lawful s.below) };
 
     fn byte(&self, at: u64) -> Result<u8, Fault> {
+        // by `?`, as a fault goes up through every layer
         Ok(match self.patches.lookup(at) {
             Some(b) => b,
             None => climb(self.below.byte(at))?,

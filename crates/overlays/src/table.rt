@@ -6,7 +6,8 @@ use spaces::Patch;
 mod edits;
 mod reads;
 
-// At most 256 patches in memory of their own, in the order of their addresses.
+// At most 256 patches in memory of their own, in the order of their addresses. No model stands over it: that the patches
+// are lawful, which the law of an overlay needs of every table, would be hidden with the field.
 #[derive(Drop)]
 pub struct PatchTable {
     patches: ArrayVec<Patch, 256>,

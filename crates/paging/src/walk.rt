@@ -39,6 +39,7 @@ fn entry<P: Scheme, S: Space>(below: &S, table: u64, level: u8, at: u64) -> Resu
 {
     let place = table + P::index(level, at) * P::WIDTH as u64;
     let raw = number(below, place, P::WIDTH)?;
+    // an entry that is not present ends the walk, and here alone
     let Some(entry) = P::decode(level, raw) else {
         return Err(PagingCause::Absent(level).at(at));
     };

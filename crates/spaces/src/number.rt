@@ -3,7 +3,8 @@ ghost use Rattle.spaces.specs.Maps.{own};
 
 use crate::fault::Fault;
 
-// A kind whose values have numbers. (Of a `From` generic code would know only that there is some number.)
+// A kind whose values have numbers. A trait of its own and not a `From`, of which a proof at any such kind would know only
+// that some number is given.
 pub trait Numbered: Copy {
     ghost number: { Self → ℕ };
 

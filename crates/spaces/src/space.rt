@@ -17,6 +17,7 @@ pub trait Space {
         ensures { result ≡ shown (meaning self.now) at };
 
     // The bytes from an address on, up to the first fault, the buffer's end or address 2^64 - 1: how many, and the fault.
+    // A pair and no `Result`, since bytes before a fault count too.
     fn fill(&self, first: u64, out: &mut [u8]) -> (usize, Option<Fault>)
         ensures { Fills (shown (meaning self.now)) first out.old out.new result }
     {

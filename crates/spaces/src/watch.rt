@@ -13,7 +13,8 @@ pub struct Watched {
     pub after: Result<u8, Fault>,
 }
 
-// Patches consecutive addresses in the overlay at a depth, and reads one address before and after.
+// Patches consecutive addresses in the overlay at a depth, and reads one address before and after. The patches are given
+// in parts, as to `set`.
 pub fn watched_set<S: Space>(space: &mut S, depth: u8, first: u64, bytes: &[u8], at: u64) -> Watched
     ensures { Watches (S.Space.meaning space.old) (S.Space.meaning space.new) depth (setting first bytes.now) at result }
 {

@@ -15,6 +15,7 @@ fn pile() -> Overlay<Spare<Overlay<Window<Overlay<Ramp>>>>> {
     })
 }
 
+// Each crate of tests has such a function of its own, as short as its tests want it.
 fn fault(depth: u8, address: u64, cause: u8) -> Result<u8, Fault> {
     Err(Fault {
         depth,

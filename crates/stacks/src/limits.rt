@@ -7,7 +7,7 @@ use std::test::Fail;
 fn patched(count: usize) -> Result<Overlay<Ramp>, Refusal> {
     let mut space = Overlay::new(Ramp { length: 0x200 });
     let sevens = [7; 256];
-    space.set(0, 0, &sevens[0..count.min(256)])?;
+    space.set(0, 0, &sevens[..count.min(256)])?;
     Ok(space)
 }
 

@@ -62,7 +62,7 @@ pub(crate) fn goes(address: u64, size: u64) -> Result<Translation, Fault> {
     Ok(Translation { address, size })
 }
 
-// (Each crate of tests makes its faults as its tests write them.)
+// Each crate of tests has such a function of its own, as short as its tests want it.
 pub(crate) fn fault(depth: u8, address: u64, cause: u8) -> Fault {
     Fault {
         depth,

@@ -74,6 +74,6 @@ fn read_raw(rt: &HostRuntime) -> io::Result<()> {
 fn try_load(rt: &HostRuntime, name: &str, room: usize) -> io::Result<()> {
     let file = fs::read(rt, name)?;
     let mut memory = [LimeRange::default(); 64];
-    let mut table = Table::new(&mut memory[0..room.min(64)]);
+    let mut table = Table::new(&mut memory[..room.min(64)]);
     tell_load(rt, name, load_lime(&file, &mut table))
 }

@@ -30,7 +30,7 @@ pub(crate) fn range(
 // What a load answers, under a table of at most eight extents.
 pub(crate) fn loaded(file: &[u8], room: usize) -> Result<usize, NotLoaded> {
     let mut memory = [LimeRange::default(); 8];
-    let mut table = Table::new(&mut memory[0..room.min(8)]);
+    let mut table = Table::new(&mut memory[..room.min(8)]);
     load_lime(file, &mut table)
 }
 
@@ -42,7 +42,7 @@ pub(crate) fn byte(file: &[u8], at: u64) -> Result<Result<u8, Fault>, NotLoaded>
     Ok(Image::new(table, file).byte(at))
 }
 
-// The fault of an image.
+// The fault of an image. Each crate of tests has such a function of its own, as short as its tests want it.
 pub(crate) fn fault(at: u64, cause: u8) -> Result<u8, Fault> {
     Err(Fault::own(at, cause))
 }

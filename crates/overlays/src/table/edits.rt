@@ -41,7 +41,8 @@ impl PatchTable {
         Ok(())
     }
 
-    // The patches before first, one for each byte from there on, and the patches from end on, if there is room for all.
+    // The patches before first, one for each byte from there on, and the patches from end on, if there is room for all. It
+    // takes an edit's parts, since each has its own place in the next table.
     fn replaced(&self, first: u64, end: u128, bytes: &[u8]) -> Result<Self, CapacityError>
         requires fits { first + length bytes.now ≤ end }
         requires ends { end ≤ 2 ^ 64 }
