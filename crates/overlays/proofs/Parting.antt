@@ -1,11 +1,10 @@
-use Rattle.std.proofs.Common.{◌≡◌, ℕ, zero, suc, ◌<◌, ◌≤◌, true, false, ltb, ◌⊎◌, [], ◌∷◌, length, take, drop, Some, None, Option, eqb, slice_get, refl, ap, inl, inr, arith}
+use Rattle.std.proofs.Common.{◌≡◌, ℕ, zero, suc, ◌<◌, ◌≤◌, true, false, ltb, [], ◌∷◌, length, take, drop, Some, None, Option, eqb, slice_get, refl, arith}
 use Rattle.std.specs.Bool.{then_some}
 use Rattle.std.specs.List.Sorted.{IsPartitionPoint, IsNonDecreasingBy}
-use Rattle.std.proofs.lemmas.Bool.{cases_lt, lt-leb, le-leb, ltb-true, ltb-false, eq-eqb, ne_eqb}
+use Rattle.std.proofs.lemmas.Bool.Decides.{nat_tests}
 use Rattle.std.proofs.lemmas.List.Sorted.{IsNonDecreasingBy-from_default}
 use Rattle.spaces.specs.declared.patch.Patch.{Patch}
 use Rattle.spaces.specs.Patches.{Patches, Ascending, lookup, before, from}
-use Rattle.spaces.proofs.Ascents.{linked}
 use Rattle.spaces.proofs.Places.{blank, rises}
 
 -- the addresses of ascending patches rise
@@ -20,11 +19,11 @@ parts a [] (suc i) h s = absurd (omega arith)
 parts a (p ∷ ps) zero h s =
     let t = parts a ps zero (omega arith) ((λ k d m n. absurd (omega arith)), λ k d m n. s.1 (suc k) d (omega arith) (omega arith)) in
     let e : ltb p.address a ≡ false = s.1 0 p (omega arith) (omega arith) in
-    (rw e t.0, rw (le-leb a p.address (ltb-false p.address a e)) (ap (λ (qs : Patches). p ∷ qs) t.1))
+    grind (arith, nat_tests)
 parts a (p ∷ ps) (suc i) h s =
     let t = parts a ps i (omega arith) ((λ k d m n. s.0 (suc k) d (omega arith) (omega arith)), λ k d m n. s.1 (suc k) d (omega arith) (omega arith)) in
     let e : ltb p.address a ≡ true = s.0 0 p (omega arith) (omega arith) in
-    (rw e (ap (λ (qs : Patches). p ∷ qs) t.0), rw (lt-leb a p.address (ltb-true p.address a e)) t.1)
+    grind (arith, nat_tests)
 
 -- the byte of a patch that may be that of an address
 abbrev pub byte_at : ℕ → Option Patch → Option ℕ
@@ -33,17 +32,12 @@ byte_at a (Some p) = then_some (eqb p.address a) p.byte
 
 none_above : (n a : ℕ) (ps : Patches) → a < n → Ascending n ps → lookup ps a ≡ None
 none_above n a [] h s = refl
-none_above n a (p ∷ ps) h s = let t = linked n p ps s in rw (ne_eqb a p.address (λ q. omega arith)) (none_above (suc p.address) a ps (omega arith) t.1)
+none_above n a (p ∷ ps) h s = let ih = none_above (suc p.address) a ps in grind (arith, nat_tests)
 
 -- the patch of an address is the first from there on
 pub first_from : (n a : ℕ) (ps : Patches) → Ascending n ps → lookup ps a ≡ byte_at a (slice_get (from a ps) 0)
 first_from n a [] s = refl
-first_from n a (p ∷ ps) s = step (cases_lt p.address a) (cases_lt a p.address) (first_from (suc p.address) a ps t.1)
-  where
-    t : (n ≤ p.address) × Ascending (suc p.address) ps
-    t = linked n p ps s
-
-    step : (p.address < a) ⊎ (a ≤ p.address) → (a < p.address) ⊎ (p.address ≤ a) → lookup ps a ≡ byte_at a (slice_get (from a ps) 0) → lookup (p ∷ ps) a ≡ byte_at a (slice_get (from a (p ∷ ps)) 0)
-    step (inl l) u ih = rw (ne_eqb a p.address (λ q. omega arith), lt-leb a p.address l) ih
-    step (inr l) (inl m) ih = rw (le-leb a p.address l, ne_eqb a p.address (λ q. omega arith), ne_eqb p.address a (λ q. omega arith)) (none_above (suc p.address) a ps (omega arith) t.1)
-    step (inr l) (inr m) ih = rw (le-leb a p.address l, eq-eqb a p.address (omega arith), eq-eqb p.address a (omega arith)) refl
+first_from n a (p ∷ ps) s =
+    let ih = first_from (suc p.address) a ps in
+    let none = none_above (suc p.address) a ps in
+    grind (arith, nat_tests)

@@ -1,22 +1,21 @@
-use Rattle.std.proofs.Common.{◌≡◌, ℕ, zero, suc, ◌+◌, ◌<◌, ◌≤◌, List, [], ◌∷◌, ◌++◌, length, get_or, take, sym, refl, ap, ◌∙◌, append_assoc, add-one, arith}
+use Rattle.std.proofs.Common.{◌≡◌, ℕ, zero, suc, ◌+◌, ◌<◌, ◌≤◌, List, [], ◌∷◌, ◌++◌, length, get_or, take, refl, append_assoc, add-one, arith}
+use Rattle.std.proofs.lemmas.Grind.{common_steps}
 use Rattle.std.proofs.lemmas.List.{length-append, length-take-le}
 use Rattle.spaces.specs.Patches.{Patches, before, from, laid, replaced}
 
 -- one byte more
 laid_suc : (first : ℕ) (bytes : List ℕ) (i : ℕ) → i < length bytes → laid first (take (suc i) bytes) ≡ laid first (take i bytes) ++ (record { address = first + i; byte = get_or bytes i 0 } ∷ [])
 laid_suc first [] i h = absurd (omega arith)
-laid_suc first (b ∷ bs) zero h = let P : ℕ → Patches = λ a. record { address = a; byte = b } ∷ [] in ap P (omega arith)
-laid_suc first (b ∷ bs) (suc i) h =
-    let P : ℕ → Patches = λ a. laid (suc first) (take i bs) ++ (record { address = a; byte = get_or bs i 0 } ∷ []) in
-    ap (λ (ps : Patches). record { address = first; byte = b } ∷ ps) (laid_suc (suc first) bs i (omega arith) ∙ ap P (omega arith))
+laid_suc first (b ∷ bs) zero h = grind (arith, common_steps)
+laid_suc first (b ∷ bs) (suc i) h = let ih = laid_suc (suc first) bs i (omega arith) in grind (arith, common_steps)
 
 pub laid_more : (front : Patches) (first : ℕ) (bytes : List ℕ) (i : ℕ) → i < length bytes
     → (front ++ laid first (take i bytes)) ++ (record { address = first + i; byte = get_or bytes i 0 } ∷ []) ≡ front ++ laid first (take (i + 1) bytes)
-laid_more front first bytes i h = append_assoc front _ _ ∙ ap (λ (ps : Patches). front ++ ps) (sym (rw add-one (laid_suc first bytes i h)))
+laid_more front first bytes i h = rw (add-one, laid_suc first bytes i h, append_assoc)
 
 length_laid : (a : ℕ) (bytes : List ℕ) → length (laid a bytes) ≡ length bytes
 length_laid a [] = refl
-length_laid a (b ∷ bs) = ap suc (length_laid (suc a) bs)
+length_laid a (b ∷ bs) = let ih = length_laid (suc a) bs in omega arith
 
 module _ (ps : Patches) (first end : ℕ) (bytes : List ℕ) where
   length_replaced : length (replaced first end bytes ps) ≡ length (before first ps) + length bytes + length (from end ps)
