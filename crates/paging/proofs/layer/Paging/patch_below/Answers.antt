@@ -1,6 +1,5 @@
-use Rattle.std.proofs.Common.{rules}
 use Rattle.paging.proofs.Untouched.{edits_below}
 use Rattle.paging.proofs.layer.Paging.patch_below.Goals as goal
 
 pub returns : goal.returns
-returns g c = search (rules, edits_below)
+returns g c = let s = c.args.self.now in edits_below g.P.Scheme.format s.cr3 (g.S.Space.meaning s.below) _ _ _ c.args.at _ c.watched_set.ensures
