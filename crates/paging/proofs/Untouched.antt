@@ -1,4 +1,5 @@
-use Rattle.std.proofs.Common.{◌≡◌, ℕ, List, inl, inr, arith}
+use Rattle.std.proofs.Common.{◌≡◌, ℕ, List, ◌∙◌, subst, inl, inr, arith}
+use mathlib.Core.List.{Memᴰ}
 use Rattle.spaces.specs.declared.watch.Watched.{Watched}
 use Rattle.spaces.specs.Maps.{Map}
 use Rattle.spaces.specs.Walks.{rule_of}
@@ -21,6 +22,6 @@ pub edits_below : (p : Format) (cr3 : ℕ) (below : Pile) (new : ℕ) (after : P
 edits_below p cr3 below new after e at w h = record {
   watches = h;
   kept = λ trail rests off. h.kept (λ x i t. off x
-      (rw (trail_below (walking (paged p cr3)) below at, rests_is_trail p (shown below) cr3 at trail rests) at i)
+      (subst (λ (l : List ℕ). Memᴰ x l) (trail_below (walking (paged p cr3)) below at ∙ rests_is_trail p (shown below) cr3 at trail rests) i)
       (grind arith));
 }
