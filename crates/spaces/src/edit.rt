@@ -1,6 +1,8 @@
-ghost use Rattle.std.specs.Prelude.{◌≡◌, ◌+◌};
-ghost use Rattle.spaces.specs.Edits.{first_of, count_of, bytes_of};
+ghost use Rattle.std.specs.Prelude.{◌≡◌, ◌+◌, None};
+ghost use Rattle.spaces.specs.Edits.{first_of, count_of, bytes_of, ending, outcome};
 ghost use Rattle.spaces.specs.Meant.{meant};
+
+use crate::refusal::Refusal;
 
 // A change of one overlay.
 #[derive(Clone, Copy, Debug, PartialEq, Eq)]
@@ -28,6 +30,16 @@ impl<'a> Edit<'a> {
             Edit::Set { first, bytes } => first as u128 + bytes.len() as u128,
             Edit::Clear { first, count } => first as u128 + count as u128,
         }
+    }
+
+    // Refused where an address would be above 2^64 - 1.
+    pub fn within(self) -> Result<(), Refusal>
+        ensures { result ≡ outcome (ending (first_of (meant self.entry) + count_of (meant self.entry)) None) }
+    {
+        if self.end() > 1 << 64 {
+            return Err(Refusal::PastTheEnd);
+        }
+        Ok(())
     }
 
     // The bytes that it leaves as patches: none where it takes patches back.

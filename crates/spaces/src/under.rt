@@ -10,10 +10,7 @@ use crate::space::Space;
 pub fn no_overlay_here(edit: Edit<'_>) -> Refusal
     ensures { Some result ≡ judged None (meant edit.entry) }
 {
-    if edit.end() > 1 << 64 {
-        return Refusal::PastTheEnd;
-    }
-    Refusal::NoOverlay
+    edit.within().err().unwrap_or(Refusal::NoOverlay)
 }
 
 // An edit at a depth of a layer that is no overlay: the space below is edited, one depth less, or the edit is refused.

@@ -32,9 +32,7 @@ impl PatchTable {
         ensures edits { EditsPatches (held self.old) (held self.new) (meant edit.entry) result }
         ensures laws { EditLaws (meant edit.entry) (held self.old) (held self.new) result }
     {
-        if edit.end() > 1 << 64 {
-            return Err(Refusal::PastTheEnd);
-        }
+        edit.within()?;
         *self = self
             .replaced(edit.first(), edit.end(), edit.bytes())
             .map_err(|_| Refusal::TooManyPatches)?;
