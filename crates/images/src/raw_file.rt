@@ -14,10 +14,9 @@ pub fn load_raw(file: &[u8], table: &mut Table<'_, RawExtent>) -> Result<usize, 
     ensures law { MatchResult result (λ _. ShowsFile file.now (held table.new)) (NoRoom file.now (room table.old) (held table.new)) }
 {
     table.clear();
-    if file.is_empty() {
+    let Some(last) = (file.len() as u64).checked_sub(1) else {
         return Ok(0);
-    }
-    let last = file.len() as u64 - 1;
+    };
     table.push(RawExtent { last }).map_err(|_| NotLoaded {
         refusal: Refusal::TableFull,
         place: 0,
