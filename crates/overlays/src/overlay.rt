@@ -38,6 +38,7 @@ impl<S: Space> Space for Overlay<S> {
     }
 
     fn edit(&mut self, depth: u8, edit: Edit<'_>) -> Result<(), Refusal> {
+        // not by `edit_under`, which refuses what is for this depth
         match depth.checked_sub(1) {
             Some(depth) => self.below.edit(depth, edit),
             None => self.patches.edit(edit),
