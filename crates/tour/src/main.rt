@@ -1,17 +1,20 @@
 #![tactic(auto)]
 
+mod paged;
 mod tell;
 
 use extents::Table;
 use images::{Image, LimeRange, RawExtent, load_lime, load_raw};
 use overlays::Overlay;
+use paged::walk_aisle;
 use spaces::Space;
 use std::{fs, io};
 use tell::{list, tell_byte, tell_clear, tell_fill, tell_load, tell_set};
 
-// One task from beginning to end: dumps are loaded, listed, read and patched, and refused where they are damaged.
+// One task from beginning to end: dumps are loaded, listed, read, walked and patched, and refused where they are damaged.
 fn main(rt: HostRuntime) -> io::Result<()> {
     read_aisle(&rt)?;
+    walk_aisle(&rt)?;
     read_cut(&rt)?;
     read_raw(&rt)?;
     try_load(&rt, "header.lime", 64)?;

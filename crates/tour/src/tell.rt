@@ -2,6 +2,7 @@
 
 use extents::Table;
 use images::{LimeRange, NotLoaded};
+use paging::{Paging, Scheme};
 use spaces::{Fault, Refusal, Space, Watched, locate, watched_set};
 use std::io;
 
@@ -73,6 +74,22 @@ pub(crate) fn tell_answer(rt: &HostRuntime, at: u64, answer: Result<u8, Fault>) 
     match answer {
         Ok(b) => println!(rt; "{at:016x} has {b:02x}"),
         Err(fault) => println!(rt; "{at:016x} has no byte: {fault}"),
+    }
+}
+
+// Where the tables send an address, or what is missing on the way.
+pub(crate) fn tell_translation<P: Scheme, S: Space>(
+    rt: &HostRuntime,
+    paging: &Paging<P, S>,
+    at: u64,
+) -> io::Result<()> {
+    match paging.translate(at) {
+        Ok(translation) => {
+            let address = translation.address;
+            let size = translation.size;
+            println!(rt; "  {at:016x} goes to {address:016x}, on a page of {size} bytes")
+        }
+        Err(fault) => println!(rt; "  {at:016x} goes nowhere: {fault}"),
     }
 }
 
