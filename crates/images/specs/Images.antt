@@ -2,6 +2,9 @@ use Rattle.std.specs.Prelude.{◌≡◌, ℕ, ◌<◌, cond, List, length, Some,
 use Rattle.spaces.specs.declared.cause.Cause.{Cause}
 use Rattle.spaces.specs.declared.cause.Cause.TheVariants.{NoExtent, NotStored}
 use Rattle.std.specs.List.{slice_get}
+use Rattle.spaces.specs.Numbers.{numbered}
+use Rattle.spaces.specs.Piles.{Pile, bottom, Lawful}
+use Rattle.spaces.proofs.Lawful.{bottom_lawful}
 use Rattle.extents.specs.Bounds.{Bounds, Overlap}
 use Rattle.extents.specs.Tables.{first_containing}
 
@@ -18,6 +21,14 @@ module _ {E : Type 0} (bounds : E → Bounds) (places : E → ℕ → Option ℕ
 
   abbrev pub image : List E → List ℕ → ℕ → Result ℕ Cause
   image extents file a = answered (first_containing bounds extents a) file a
+
+  -- the same with its causes as numbers, as a bottom has them
+  abbrev pub image_bottom : List E → List ℕ → Pile
+  image_bottom extents file = bottom (λ a. numbered (image extents file a))
+
+  -- its faults are its own
+  pub image_lawful : (extents : List E) (file : List ℕ) → Lawful (image_bottom extents file)
+  image_lawful extents file = bottom_lawful (λ a. numbered (image extents file a))
 
 -- no two extents share an address
 abbrev pub Apart : {E : Type 0} → (E → Bounds) → List E → Type 0

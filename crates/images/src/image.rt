@@ -1,9 +1,6 @@
 ghost use Rattle.std.specs.Prelude.{◌≡◌};
-ghost use Rattle.spaces.specs.Numbers.{numbered};
-ghost use Rattle.spaces.specs.Piles.{bottom};
-ghost use Rattle.spaces.proofs.Lawful.{bottom_lawful};
 ghost use Rattle.extents.specs.Tables.{held};
-ghost use Rattle.images.specs.Images.{image};
+ghost use Rattle.images.specs.Images.{image_bottom, image_lawful};
 
 use extents::{Stored, Table};
 use spaces::{Cause, Edit, Fault, FaultCause, Refusal, Space, no_overlay_here};
@@ -17,16 +14,17 @@ pub struct Image<'t, 'f, E> {
 
 impl<'t, 'f, E: Stored + Copy> Image<'t, 'f, E> {
     pub fn new(table: Table<'t, E>, file: &'f [u8]) -> Self
-        ensures { (result.table ≡ table.entry) × (result.file ≡ file.entry) }
+        ensures is { (result.table ≡ table.entry) × (result.file ≡ file.entry) }
+        ensures means { ⟦<Self as Space>⟧.meaning result ≡ image_bottom E.Extent.bounds E.Stored.places (held table.entry) file.entry.now }
     {
         Image { table, file }
     }
 }
 
 impl<E: Stored + Copy> Space for Image<'_, '_, E> {
-    ghost meaning = { λ s. bottom (λ a. numbered (image E.Extent.bounds E.Stored.places (held s.table) s.file.now a)) };
+    ghost meaning = { λ s. image_bottom E.Extent.bounds E.Stored.places (held s.table) s.file.now };
 
-    ghost lawful = { λ s. bottom_lawful (λ a. numbered (image E.Extent.bounds E.Stored.places (held s.table) s.file.now a)) };
+    ghost lawful = { λ s. image_lawful E.Extent.bounds E.Stored.places (held s.table) s.file.now };
 
     fn byte(&self, at: u64) -> Result<u8, Fault> {
         let extent = self.table.lookup(at).ok_or(Cause::NoExtent.at(at))?;

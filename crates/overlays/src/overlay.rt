@@ -15,7 +15,8 @@ pub struct Overlay<S> {
 
 impl<S: Space> Overlay<S> {
     pub fn new(below: S) -> Self
-        ensures { (held result.patches ≡ []) × (result.below ≡ below) }
+        ensures is { (held result.patches ≡ []) × (result.below ≡ below) }
+        ensures means { ⟦<Self as Space>⟧.meaning result ≡ on (overlay []) (S.Space.meaning below) }
     {
         Overlay {
             patches: PatchTable::new(),

@@ -1,16 +1,14 @@
-use Rattle.std.proofs.Common.{◌≡◌, ℕ, ◌+◌, ◌*◌, ◌≤◌, Bool, true, false, ◌⊎◌, List, [], ◌∷◌, ◌++◌, length, Ok, Err, Result, sym, refl, ◌∙◌, inl, inr, append-nil, arith, length-append}
+use Rattle.std.proofs.Common.{◌≡◌, ℕ, Bool, true, false, ◌⊎◌, List, [], ◌∷◌, ◌++◌, Ok, Err, Result, refl, inl, inr, append-nil, arith}
 use Rattle.spaces.specs.declared.fault.Fault.{Fault}
 use Rattle.spaces.specs.Maps.{Map, raised}
-use Rattle.spaces.specs.Walks.{give, ask, walked, found, rule_of}
-use Rattle.spaces.proofs.Sequences.{after_there, after_missing, found_after}
+use Rattle.spaces.specs.Walks.{give, ask, walked, found}
+use Rattle.spaces.proofs.Sequences.{after_there, after_missing}
 use Rattle.paging.specs.declared.entry.Page.{Page}
 use Rattle.paging.specs.declared.translation.Translation.{Translation}
 use Rattle.paging.specs.Formats.{Format, Sound}
 use Rattle.paging.specs.Paged.{page_of, final, translation, paged}
 use Rattle.paging.specs.Translations.{Translates, Fails, unlawful, stops, Answers}
-use Rattle.paging.specs.Layers.{Shows, Translated}
-use Rattle.paging.proofs.Lengths.{leads_long, stops_long}
-use Rattle.paging.proofs.Ways.{leads_walked, stops_walked, Way, way, leads_alike}
+use Rattle.paging.proofs.Ways.{leads_walked, stops_walked, Way, way}
 
 -- The whole walk of an address is the manual's translation.
 
@@ -35,10 +33,10 @@ module _ (p : Format) (m : Map) (cr3 a : ℕ) where
   byte_missing t = after_missing a (translation p cr3 a) _ m _ _ (translation_missing t)
 
   -- An address translates, or something is missing.
-  abbrev Outcome : Type 0
+  abbrev pub Outcome : Type 0
   Outcome = ((reads : List ℕ) × (pg : Page) × Translates p m cr3 a reads pg) ⊎ ((reads : List ℕ) × (f : Fault) × Fails p m cr3 a reads f)
 
-  outcome : Sound p → Outcome
+  pub outcome : Sound p → Outcome
   outcome sound = by (p.lawful a) refl (way p m a sound p.levels (p.root cr3) sound.some (omega arith))
     where
       by : (b : Bool) → p.lawful a ≡ b → Way p m a p.levels (p.root cr3) → Outcome
@@ -46,19 +44,7 @@ module _ (p : Format) (m : Map) (cr3 a : ℕ) where
       by true q (inr c) = inr (_, c.1, stops q c.2)
       by false q w = inr (_, _, unlawful q)
 
-  pub shows : Sound p → Shows p m cr3 a
-  shows sound = record {
-    page = λ reads pg t. byte_found t;
-    fault = λ reads f t. byte_missing t;
-    short = by (outcome sound);
-  }
-    where
-      by : Outcome → length (rule_of (paged p cr3) m a).1 ≤ p.levels * p.width + 1
-      by (inl c) = rw (byte_found c.2) (omega (arith, length-append {A = ℕ}, leads_long p m a c.2.chain))
-      by (inr (reads, f, unlawful q)) = rw (byte_missing (unlawful q)) (omega arith)
-      by (inr (reads, f, stops q c)) = rw (byte_missing (stops q c)) (omega (arith, stops_long p m a c))
-
-  answers : Sound p → (r : Result Translation Fault) → r ≡ found a (translation p cr3 a) m → Answers p m cr3 a r
+  pub answers : Sound p → (r : Result Translation Fault) → r ≡ found a (translation p cr3 a) m → Answers p m cr3 a r
   answers sound r e = record {
     page = λ t q. page t q (outcome sound);
     only_page = λ reads pg t. grind (arith, translation_found t);
@@ -73,20 +59,3 @@ module _ (p : Format) (m : Map) (cr3 a : ℕ) where
       fault : (f : Fault) → r ≡ Err f → Outcome → (reads : List ℕ) × Fails p m cr3 a reads f
       fault f q (inl c) = grind (arith, translation_found c.2)
       fault f q (inr c) = grind (arith, translation_missing c.2)
-
--- A call that walks to a page translates.
-
-module _ (p : Format) (m : Map) (cr3 a : ℕ) (sound : Sound p) where
-  translated : (r : Result Translation Fault) → r ≡ found a (translation p cr3 a) m → Translated p m cr3 a r
-  translated r e = record {
-    walks = e;
-    answers = answers p m cr3 a sound r e;
-    alike = λ reads pg t b s. let (same, chain) = leads_alike p m a sound b t.chain (omega arith) (sym s) in record { lawful = sym same.0 ∙ t.lawful; chain = chain };
-    shows = λ b. shows p m cr3 b sound;
-  }
-
-  pub page_missing : (r : Result Translation Fault) (f : Fault) → r ≡ Err f → Err f ≡ found a (page_of p cr3 a) m → Translated p m cr3 a r
-  page_missing r f e q = translated r (grind (arith, found_after a (page_of p cr3 a) (λ pg. give (final pg a)) m))
-
-  pub page_there : (pg : Page) (t : Translation) → t ≡ final pg a → Ok pg ≡ found a (page_of p cr3 a) m → Translated p m cr3 a (Ok t)
-  page_there pg t e q = translated (Ok t) (grind (arith, found_after a (page_of p cr3 a) (λ pg. give (final pg a)) m))

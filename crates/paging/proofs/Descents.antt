@@ -5,14 +5,14 @@ use Rattle.spaces.proofs.Sequences.{onward, found_after}
 use Rattle.paging.specs.declared.entry.Target.TheVariants.{Table}
 use Rattle.paging.specs.declared.entry.Entry.{Entry}
 use Rattle.paging.specs.Formats.{Format, Sound}
-use Rattle.paging.specs.Paged.{lead, entry_of, descend, page_of}
+use Rattle.paging.specs.Paged.{follow, entry_of, descend, page_of}
 use Rattle.paging.specs.Entries.{entry_found}
 use Rattle.paging.proofs.Entries.{entry_walked, entry_means}
 
 -- one level of the walk
-pub descend_found : (p : Format) (m : Map) (a l table : ℕ) → 0 < l → found a (descend p a l table) m ≡ onward (entry_found p m a l table) (λ e. found a (lead e.target (descend p a (l - 1))) m)
+pub descend_found : (p : Format) (m : Map) (a l table : ℕ) → 0 < l → found a (descend p a l table) m ≡ onward (entry_found p m a l table) (λ e. found a (follow e.target (descend p a (l - 1))) m)
 descend_found p m a zero table h = absurd (omega arith)
-descend_found p m a (suc l) table h = grind (arith, found_after a (entry_of p a (suc l) table) (λ e. lead e.target (descend p a l)) m, entry_walked p m a (suc l) table)
+descend_found p m a (suc l) table h = grind (arith, found_after a (entry_of p a (suc l) table) (λ e. follow e.target (descend p a l)) m, entry_walked p m a (suc l) table)
 
 -- the walk has come to a table of a level
 pub record Come (p : Format) (m : Map) (cr3 a l table : ℕ) : Type 0 where

@@ -7,7 +7,7 @@ use Rattle.spaces.specs.Walks.{give, walked}
 use Rattle.spaces.proofs.Sequences.{walked_after}
 use Rattle.endian.specs.Little.{little_endian}
 use Rattle.paging.specs.declared.entry.Entry.{Entry}
-use Rattle.paging.specs.Formats.{Format, Leading, Sound}
+use Rattle.paging.specs.Formats.{Format, SoundTarget, Sound}
 use Rattle.paging.specs.Entries.{as_number, decoded_or, entry_found}
 use Rattle.paging.specs.Paged.{bytes_at, entry_at, present_at, entry_of}
 use Rattle.paging.specs.Translations.{entry_bytes}
@@ -34,5 +34,5 @@ entry_walked p m a l table =
     grind (arith, common_steps)
 
 -- what is found of an entry is one of its level
-pub entry_means : (p : Format) → Sound p → (m : Map) (a l table : ℕ) → 0 < l → l ≤ p.levels → (e : Entry) → Ok e ≡ entry_found p m a l table → Leading p l e.target
+pub entry_means : (p : Format) → Sound p → (m : Map) (a l table : ℕ) → 0 < l → l ≤ p.levels → (e : Entry) → Ok e ≡ entry_found p m a l table → SoundTarget p l e.target
 entry_means p sound m a l table z k e h = let s = sound.entry l (little_endian (got m (entry_bytes p l table a)).bytes) z k in grind arith

@@ -3,7 +3,7 @@ use Rattle.paging.specs.Schemes.{two_level, pae, four_level}
 use Rattle.paging.specs.Translations as rel
 use Rattle.paging.specs.Worked.{Worked, EveryTrailIsShort}
 use Rattle.paging.specs.Sounds.{two_sound, pae_sound, four_sound}
-use Rattle.paging.proofs.Answering.{shows}
+use Rattle.paging.proofs.Showing.{shows}
 
 pub worked : Worked
 worked = record {
@@ -13,8 +13,8 @@ worked = record {
 }
 
 pub short_trails : EveryTrailIsShort
-short_trails m cr3 a = record {
-  two = (shows two_level m cr3 a two_sound).short;
-  pae = (shows pae m cr3 a pae_sound).short;
-  four = (shows four_level m cr3 a four_sound).short;
+short_trails cr3 below a = record {
+  two = (shows two_level cr3 below two_sound a).short;
+  pae = (shows pae cr3 below pae_sound a).short;
+  four = (shows four_level cr3 below four_sound a).short;
 }

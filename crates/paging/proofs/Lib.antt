@@ -4,5 +4,5 @@ pub mod Descents
 pub mod Ways
 pub mod Lengths
 pub mod Answering
-pub mod Untouched
+pub mod Showing
 pub mod Examples

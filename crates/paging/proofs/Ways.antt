@@ -9,8 +9,8 @@ use Rattle.paging.specs.declared.entry.Page.{Page}
 use Rattle.paging.specs.declared.entry.Target.{Target}
 use Rattle.paging.specs.declared.entry.Target.TheVariants.{Table, Leaf}
 use Rattle.paging.specs.declared.entry.Entry.{Entry}
-use Rattle.paging.specs.Formats.{Format, Alike, Placed, Leading, Meaning, Sound}
-use Rattle.paging.specs.Paged.{entry_of, lead, descend}
+use Rattle.paging.specs.Formats.{Format, Alike, Placed, SoundTarget, SoundEntry, Sound}
+use Rattle.paging.specs.Paged.{entry_of, follow, descend}
 use Rattle.paging.specs.Translations.{entry_bytes, EntryIs, Leads, Stops}
 use Rattle.paging.specs.Translations as rel
 use Rattle.paging.proofs.Entries.{entry_walked}
@@ -26,9 +26,9 @@ all_read m (x ∷ xs) e = grind (arith, all_read m xs)
 module _ (p : Format) (m : Map) (a : ℕ) where
   -- on from an entry that is present
   present_walked : (l table : ℕ) (e : Entry) (t : Target) → EntryIs p m a (suc l) table (Some e) → e.target ≡ t
-      → walked a (descend p a (suc l) table) m ≡ past (entry_bytes p (suc l) table a) (walked a (lead t (descend p a l)) m)
+      → walked a (descend p a (suc l) table) m ≡ past (entry_bytes p (suc l) table a) (walked a (follow t (descend p a l)) m)
   present_walked l table e t (raw, h, q) s =
-      rw (← s) (after_there a (entry_of p a (suc l) table) (λ e. lead e.target (descend p a l)) m e _ (grind (arith, entry_walked p m a (suc l) table, all_read m (entry_bytes p (suc l) table a))))
+      rw (← s) (after_there a (entry_of p a (suc l) table) (λ e. follow e.target (descend p a l)) m e _ (grind (arith, entry_walked p m a (suc l) table, all_read m (entry_bytes p (suc l) table a))))
 
   pub leads_walked : {l table : ℕ} {reads : List ℕ} {pg : Page} → Leads p m a l table reads pg → walked a (descend p a l table) m ≡ (Ok pg, reads)
   leads_walked (rel.Leads.page h s) = rw (present_walked _ _ _ _ h s, append-nil)
@@ -36,7 +36,7 @@ module _ (p : Format) (m : Map) (a : ℕ) where
 
   -- where an entry is missing, so is all that comes after it
   stop : (l table : ℕ) (f : Fault) (reads : List ℕ) → walked a (entry_of p a (suc l) table) m ≡ (Err f, reads) → walked a (descend p a (suc l) table) m ≡ (Err f, reads)
-  stop l table f reads = after_missing a (entry_of p a (suc l) table) (λ e. lead e.target (descend p a l)) m f reads
+  stop l table f reads = after_missing a (entry_of p a (suc l) table) (λ e. follow e.target (descend p a l)) m f reads
 
   pub stops_walked : {l table : ℕ} {reads : List ℕ} {f : Fault} → Stops p m a l table reads f → walked a (descend p a l table) m ≡ (Err f, reads)
   stops_walked (rel.Stops.missing {l = l} {table = table} h) = stop l table _ _ (grind (arith, entry_walked p m a (suc l) table))
@@ -51,7 +51,7 @@ module _ (p : Format) (m : Map) (a : ℕ) where
   way sound zero table h k = absurd (omega arith)
   way sound (suc l) table h k = step (got m (entry_bytes p (suc l) table a)).fault refl (λ t n. way sound l t n (omega arith))
     where
-      to : (e : Entry) (t : Target) → EntryIs p m a (suc l) table (Some e) → e.target ≡ t → Leading p (suc l) t → ((t : ℕ) → 0 < l → Way l t) → Way (suc l) table
+      to : (e : Entry) (t : Target) → EntryIs p m a (suc l) table (Some e) → e.target ≡ t → SoundTarget p (suc l) t → ((t : ℕ) → 0 < l → Way l t) → Way (suc l) table
       to e (Leaf pg) h s leads rest = inl (_, pg, rel.Leads.page h s)
       to e (Table t) h s leads rest = on (rest t (omega (arith, leads.1)))
         where
@@ -59,7 +59,7 @@ module _ (p : Format) (m : Map) (a : ℕ) where
           on (inl c) = inl (_, c.1, rel.Leads.next h s c.2)
           on (inr c) = inr (_, c.1, rel.Stops.next h s c.2)
 
-      by : (o : Option Entry) → EntryIs p m a (suc l) table o → Meaning p (suc l) o → ((t : ℕ) → 0 < l → Way l t) → Way (suc l) table
+      by : (o : Option Entry) → EntryIs p m a (suc l) table o → SoundEntry p (suc l) o → ((t : ℕ) → 0 < l → Way l t) → Way (suc l) table
       by None h leads rest = inr (_, _, rel.Stops.absent h)
       by (Some e) h leads rest = to e e.target h refl leads rest
 

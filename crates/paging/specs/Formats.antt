@@ -28,17 +28,17 @@ pub record Placed (pg : Page) : Type 0 where
   pub size : pg.size ≤ 2 ^ 52
 
 -- an entry of a level leads to a table, if a level is left for it, or to a page
-abbrev pub Leading : Format → ℕ → Target → Type 0
-Leading p l (Table t) = (t < 2 ^ 52) × (1 < l)
-Leading p l (Leaf pg) = Placed pg × Alike p l pg.size
+abbrev pub SoundTarget : Format → ℕ → Target → Type 0
+SoundTarget p l (Table t) = (t < 2 ^ 52) × (1 < l)
+SoundTarget p l (Leaf pg) = Placed pg × Alike p l pg.size
 
-abbrev pub Meaning : Format → ℕ → Option Entry → Type 0
-Meaning p l None = Unit {0}
-Meaning p l (Some e) = Leading p l e.target
+abbrev pub SoundEntry : Format → ℕ → Option Entry → Type 0
+SoundEntry p l None = Unit {0}
+SoundEntry p l (Some e) = SoundTarget p l e.target
 
 pub record Sound (p : Format) : Type 0 where
   pub some : 0 < p.levels
   pub width : p.width ≤ 8
   pub root : (cr3 : ℕ) → p.root cr3 < 2 ^ 52
   pub index : (l a : ℕ) → p.index l a * p.width + p.width ≤ 2 ^ 12
-  pub entry : (l e : ℕ) → 0 < l → l ≤ p.levels → Meaning p l (p.decoded l e)
+  pub entry : (l e : ℕ) → 0 < l → l ≤ p.levels → SoundEntry p l (p.decoded l e)

@@ -2,9 +2,10 @@ use Rattle.std.specs.Prelude.{◌≡◌, ℕ, ◌+◌, ◌*◌, ◌/◌, ◌≤�
 use mathlib.Core.List.{Memᴰ}
 use Rattle.spaces.specs.declared.fault.Fault.{Fault}
 use Rattle.spaces.specs.declared.watch.Watched.{Watched}
-use Rattle.spaces.specs.Maps.{Map, raised}
-use Rattle.spaces.specs.Walks.{found, rule_of}
+use Rattle.spaces.specs.Maps.{raised}
+use Rattle.spaces.specs.Walks.{found}
 use Rattle.spaces.specs.Piles.{Pile, Lawful, on, walking, shown}
+use Rattle.spaces.specs.Trails.{trail}
 use Rattle.spaces.proofs.Walking.{walking_lawful}
 use Rattle.spaces.specs.Edits.{Edit}
 use Rattle.spaces.specs.EditLaws.{Inside}
@@ -24,29 +25,29 @@ paging_on p cr3 below = on (walking (paged p cr3)) below
 pub paging_lawful : (p : Format) (cr3 : ℕ) (below : Pile) → Lawful below → Lawful (paging_on p cr3 below)
 paging_lawful p cr3 below h = walking_lawful (paged p cr3) below h
 
-module _ (p : Format) (m : Map) (cr3 a : ℕ) where
-  -- The layer shows at an address the byte at the final address, and rests on the table bytes on the way and on that
-  -- address; or it shows the fault, and rests on the table bytes up to it. At most one entry for each level is read.
-  pub record Shows : Type 0 where
-    pub page : (reads : List ℕ) (pg : Page) → Translates p m cr3 a reads pg
-        → rule_of (paged p cr3) m a ≡ (raised (m (final pg a).address), reads ++ ((final pg a).address ∷ []))
-    pub fault : (reads : List ℕ) (f : Fault) → Fails p m cr3 a reads f → rule_of (paged p cr3) m a ≡ (Err f, reads)
-    pub short : length (rule_of (paged p cr3) m a).1 ≤ p.levels * p.width + 1
+module _ (p : Format) (cr3 : ℕ) (below : Pile) where
+  -- A layer over a pile shows at an address the byte at the final address, and rests on the entry bytes on the way and on
+  -- that address; or it shows the fault, and rests on the entry bytes up to it. At most one entry for each level is read.
+  pub record Shows (layer : Pile) (a : ℕ) : Type 0 where
+    pub page : (reads : List ℕ) (pg : Page) → Translates p (shown below) cr3 a reads pg
+        → (shown layer a ≡ raised (shown below (final pg a).address)) × (trail layer (a ∷ []) 1 ≡ reads ++ ((final pg a).address ∷ []))
+    pub fault : (reads : List ℕ) (f : Fault) → Fails p (shown below) cr3 a reads f → (shown layer a ≡ Err f) × (trail layer (a ∷ []) 1 ≡ reads)
+    pub short : length (trail layer (a ∷ []) 1) ≤ p.levels * p.width + 1
 
   -- the addresses below on which an address rests
-  abbrev pub RestsOn : List ℕ → Type 0
-  RestsOn trail =
-      ((reads : List ℕ) × (pg : Page) × Translates p m cr3 a reads pg × (trail ≡ reads ++ ((final pg a).address ∷ []))) ⊎ ((f : Fault) × Fails p m cr3 a trail f)
+  abbrev pub RestsOn : (a : ℕ) → List ℕ → Type 0
+  RestsOn a t =
+      ((reads : List ℕ) × (pg : Page) × Translates p (shown below) cr3 a reads pg × (t ≡ reads ++ ((final pg a).address ∷ []))) ⊎ ((f : Fault) × Fails p (shown below) cr3 a t f)
 
--- A translated address: the answer is the walk's, which is the manual's; all addresses of the page translate alike, by
--- the same table bytes; and the layer shows at every address what lies there.
-pub record Translated (p : Format) (m : Map) (cr3 a : ℕ) (r : Result Translation Fault) : Type 0 where
-  pub walks : r ≡ found a (translation p cr3 a) m
-  pub answers : Answers p m cr3 a r
-  pub alike : (reads : List ℕ) (pg : Page) → Translates p m cr3 a reads pg → (b : ℕ) → b / pg.size ≡ a / pg.size → Translates p m cr3 b reads pg
-  pub shows : (b : ℕ) → Shows p m cr3 b
+  -- A translated address: the answer is the walk's, which is the manual's; all addresses of the page translate alike, by
+  -- the same entry bytes; and the layer shows at every address what lies there.
+  pub record Translated (layer : Pile) (a : ℕ) (r : Result Translation Fault) : Type 0 where
+    pub walks : r ≡ found a (translation p cr3 a) (shown below)
+    pub answers : Answers p (shown below) cr3 a r
+    pub alike : (reads : List ℕ) (pg : Page) → Translates p (shown below) cr3 a reads pg → (b : ℕ) → b / pg.size ≡ a / pg.size → Translates p (shown below) cr3 b reads pg
+    pub shows : (b : ℕ) → Shows layer b
 
--- An edit right below while one address is watched: off the addresses on which it rests, the edit changes nothing there.
-pub record EditsBelow (p : Format) (old new : ℕ) (below after : Pile) (e : Edit) (at : ℕ) (w : Watched) : Type 0 where
-  pub watches : Watches (paging_on p old below) (paging_on p new after) 1 e at w
-  pub kept : (trail : List ℕ) → RestsOn p (shown below) old at trail → ((x : ℕ) → Memᴰ x trail → Inside e x → ⊥) → w.after ≡ w.before
+  -- An edit right below while one address is watched: off the addresses on which it rests, the edit changes nothing there.
+  pub record EditsBelow (old new : Pile) (e : Edit) (a : ℕ) (w : Watched) : Type 0 where
+    pub watches : Watches old new 1 e a w
+    pub kept : (t : List ℕ) → RestsOn a t → ((x : ℕ) → Memᴰ x t → Inside e x → ⊥) → w.after ≡ w.before

@@ -31,14 +31,14 @@ abbrev pub entry_of : Format → (a level table : ℕ) → Walk Entry
 entry_of p a level table = after (bytes_at p.width (entry_at p level table a)) (λ bs. present_at level (p.decoded level (little_endian bs)))
 
 -- it leads to a page, which ends the walk, or to the next table
-abbrev pub lead : Target → (ℕ → Walk Page) → Walk Page
-lead (Table t) onward = onward t
-lead (Leaf pg) onward = give pg
+abbrev pub follow : Target → (ℕ → Walk Page) → Walk Page
+follow (Table t) onward = onward t
+follow (Leaf pg) onward = give pg
 
 -- From a table of a level down to a page. There is no table of level 0: an entry of level 1 leads to none.
 abbrev pub descend : Format → (a level table : ℕ) → Walk Page
 descend p a zero table = fail (cause_number (Absent zero))
-descend p a (suc l) table = after (entry_of p a (suc l) table) (λ e. lead e.target (descend p a l))
+descend p a (suc l) table = after (entry_of p a (suc l) table) (λ e. follow e.target (descend p a l))
 
 -- the page of an address, from the root table down
 abbrev pub page_of : Format → (cr3 a : ℕ) → Walk Page

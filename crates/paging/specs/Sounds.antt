@@ -4,28 +4,28 @@ use Rattle.std.proofs.lemmas.Nat.{pow_pos}
 use Rattle.std.proofs.lemmas.Bool.{cond_both, eqb-true, eqb-false, and_parts}
 use Rattle.paging.specs.declared.entry.Target.{Target}
 use Rattle.paging.specs.Bits.{bit}
-use Rattle.paging.specs.Formats.{Format, Alike, Leading, Meaning, Sound}
+use Rattle.paging.specs.Formats.{Format, Alike, SoundTarget, SoundEntry, Sound}
 use Rattle.paging.specs.Schemes.{page, table, present, large_at, two_level, pae, four_level}
 use Rattle.paging.specs.Fields.{field_below, bits_below, field_alike, below_alike}
 
 -- What the three schemes' entries share: where an entry of a level leads, by the bits that tell it.
 module _ (p : Format) (l e : ℕ) where
-  table_leads : (high : ℕ) → high ≤ 51 → 1 < l → Leading p l (table high e)
+  table_leads : (high : ℕ) → high ≤ 51 → 1 < l → SoundTarget p l (table high e)
   table_leads high h k = (bits_below high 12 52 e (omega arith) (omega arith), k)
 
-  page_leads : (high low : ℕ) → high ≤ 51 → low ≤ 52 → Alike p l (2 ^ low) → Leading p l (page high low e)
+  page_leads : (high low : ℕ) → high ≤ 51 → low ≤ 52 → Alike p l (2 ^ low) → SoundTarget p l (page high low e)
   page_leads high low h k t = (record { base = bits_below high low 52 e k (omega arith); some = pow_pos low; size = pow_mono k }, t)
 
   -- at one level a large page where bit 7 is set, and else what the rest leads to
-  large_leads : (n high low : ℕ) (rest : Target) → high ≤ 51 → low ≤ 52 → (l ≡ n → Alike p l (2 ^ low)) → Leading p l rest → Leading p l (cond (large_at n l e) (page high low e) rest)
+  large_leads : (n high low : ℕ) (rest : Target) → high ≤ 51 → low ≤ 52 → (l ≡ n → Alike p l (2 ^ low)) → SoundTarget p l rest → SoundTarget p l (cond (large_at n l e) (page high low e) rest)
   large_leads n high low rest h k t r =
-      cond_both (large_at n l e) (page high low e) rest (Leading p l) (λ q. page_leads high low h k (t (eqb-true l n (and_parts (l == n) (bit 7 e) q).0))) (λ _. r)
+      cond_both (large_at n l e) (page high low e) rest (SoundTarget p l) (λ q. page_leads high low h k (t (eqb-true l n (and_parts (l == n) (bit 7 e) q).0))) (λ _. r)
 
   -- at level 1 a page of 4 KiB, and at each above it what the rest leads to
-  entry_sound : (high : ℕ) (rest : Target) → 0 < l → high ≤ 51 → Alike p l (2 ^ 12) → (1 < l → Leading p l rest) → Meaning p l (present e (cond (l == 1) (page high 12 e) rest))
+  entry_sound : (high : ℕ) (rest : Target) → 0 < l → high ≤ 51 → Alike p l (2 ^ 12) → (1 < l → SoundTarget p l rest) → SoundEntry p l (present e (cond (l == 1) (page high 12 e) rest))
   entry_sound high rest z h t r =
-      cond_both (bit 0 e) (Some (record { target = cond (l == 1) (page high 12 e) rest })) None (Meaning p l)
-      (λ _. cond_both (l == 1) (page high 12 e) rest (Leading p l) (λ _. page_leads high 12 h (omega arith) t) (λ q. r (omega (arith, eqb-false l 1 q))))
+      cond_both (bit 0 e) (Some (record { target = cond (l == 1) (page high 12 e) rest })) None (SoundEntry p l)
+      (λ _. cond_both (l == 1) (page high 12 e) rest (SoundTarget p l) (λ _. page_leads high 12 h (omega arith) t) (λ q. r (omega (arith, eqb-false l 1 q))))
       (λ _. tt)
 
 -- each scheme's addresses of one page

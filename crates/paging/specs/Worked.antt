@@ -1,12 +1,14 @@
-use Rattle.std.specs.Prelude.{◌≡◌, ℕ, ◌≤◌, List, length}
+use Rattle.std.specs.Prelude.{◌≡◌, ℕ, ◌≤◌, List, [], ◌∷◌, length}
 use Rattle.spaces.specs.Maps.{Map}
-use Rattle.spaces.specs.Walks.{rule_of}
+use Rattle.spaces.specs.Piles.{Pile}
+use Rattle.spaces.specs.Trails.{trail}
 use Rattle.paging.specs.declared.entry.Page.{Page}
 use Rattle.paging.specs.Bits.{field}
 use Rattle.paging.specs.Formats.{Format}
 use Rattle.paging.specs.Schemes.{two_level, pae, four_level}
-use Rattle.paging.specs.Paged.{entry_at, final, paged}
+use Rattle.paging.specs.Paged.{entry_at, final}
 use Rattle.paging.specs.Translations.{Holds, Leads, Translates}
+use Rattle.paging.specs.Layers.{paging_on}
 
 -- an address goes to another
 abbrev pub Goes : Format → Map → (cr3 a x : ℕ) → Type 0
@@ -15,7 +17,7 @@ Goes p m cr3 a x = (reads : List ℕ) × (pg : Page) × Translates p m cr3 a rea
 -- worked examples, one for each scheme
 pub record Worked : Type 0 where
   pub two : (m : Map) → Holds m 4 0x1004 0x00400083 → Goes two_level m 0x1000 0x400010 0x400010
-  pub pae : entry_at pae 3 (pae.root 0x1020) 0xc0000000 ≡ 0x1038
+  pub pae : entry_at pae pae.levels (pae.root 0x1020) 0xc0000000 ≡ 0x1038
   pub four : (m : Map) (table : ℕ) → Holds m 8 (entry_at four_level 2 table 0x1234) 0x6000e3
       → (reads : List ℕ) × (pg : Page) × Leads four_level m 0x1234 2 table reads pg × ((final pg 0x1234).address ≡ 0x601234)
 
@@ -34,11 +36,11 @@ pub record IndexBits (a : ℕ) : Type 0 where
 abbrev pub EveryIndexHasItsBits : Type 0
 EveryIndexHasItsBits = (a : ℕ) → IndexBits a
 
--- how many addresses below one address can rest on
-pub record ShortTrails (m : Map) (cr3 a : ℕ) : Type 0 where
-  pub two : length (rule_of (paged two_level cr3) m a).1 ≤ 9
-  pub pae : length (rule_of (paged pae cr3) m a).1 ≤ 25
-  pub four : length (rule_of (paged four_level cr3) m a).1 ≤ 33
+-- how many addresses right below one address can rest on
+pub record ShortTrails (cr3 : ℕ) (below : Pile) (a : ℕ) : Type 0 where
+  pub two : length (trail (paging_on two_level cr3 below) (a ∷ []) 1) ≤ 9
+  pub pae : length (trail (paging_on pae cr3 below) (a ∷ []) 1) ≤ 25
+  pub four : length (trail (paging_on four_level cr3 below) (a ∷ []) 1) ≤ 33
 
 abbrev pub EveryTrailIsShort : Type 0
-EveryTrailIsShort = (m : Map) (cr3 a : ℕ) → ShortTrails m cr3 a
+EveryTrailIsShort = (cr3 : ℕ) (below : Pile) (a : ℕ) → ShortTrails cr3 below a

@@ -1,5 +1,4 @@
 ghost use Rattle.std.specs.Prelude.{◌≡◌};
-ghost use Rattle.spaces.specs.Piles.{shown};
 ghost use Rattle.spaces.specs.Edits.{setting};
 ghost use Rattle.paging.specs.Layers.{paging_on, paging_lawful, Translated, EditsBelow};
 
@@ -18,14 +17,15 @@ pub struct Paging<P, S> {
 
 impl<P: Scheme, S: Space> Paging<P, S> {
     pub fn new(scheme: P, cr3: u64, below: S) -> Self
-        ensures { result ≡ record { scheme = scheme; cr3 = cr3; below = below } }
+        ensures is { result ≡ record { scheme = scheme; cr3 = cr3; below = below } }
+        ensures means { ⟦<Self as Space>⟧.meaning result ≡ paging_on P.Scheme.format cr3 (S.Space.meaning below) }
     {
         Paging { scheme, cr3, below }
     }
 
     // Where an address goes, or what is missing on the way.
     pub fn translate(&self, at: u64) -> Result<Translation, Fault>
-        ensures { Translated P.Scheme.format (shown (S.Space.meaning self.now.below)) self.now.cr3 at result }
+        ensures { Translated P.Scheme.format self.now.cr3 (S.Space.meaning self.now.below) (⟦<Self as Space>⟧.meaning self.now) at result }
     {
         let page = walk::<P, S>(&self.below, self.cr3, at)?;
         Ok(Translation::on(page, at))
@@ -34,7 +34,7 @@ impl<P: Scheme, S: Space> Paging<P, S> {
     // Patches what lies right below, and reads one address before and after. A patch that touches neither a table byte on
     // the address's way nor its final address changes nothing there.
     pub fn patch_below(&mut self, first: u64, bytes: &[u8], at: u64) -> Watched
-        ensures { EditsBelow P.Scheme.format self.old.cr3 self.new.cr3 (S.Space.meaning self.old.below) (S.Space.meaning self.new.below) (setting first bytes.now) at result }
+        ensures { EditsBelow P.Scheme.format self.old.cr3 (S.Space.meaning self.old.below) (⟦<Self as Space>⟧.meaning self.old) (⟦<Self as Space>⟧.meaning self.new) (setting first bytes.now) at result }
     {
         watched_set(self, 1, first, bytes, at)
     }
