@@ -35,7 +35,7 @@ abbrev pub follow : Target → (ℕ → Walk Page) → Walk Page
 follow (Table t) onward = onward t
 follow (Leaf pg) onward = give pg
 
--- From a table of a level down to a page. There is no table of level 0: an entry of level 1 leads to none.
+-- From a table of a level down to a page. There is no table of level 0: in a sound scheme no entry of level 1 leads to one.
 abbrev pub descend : Format → (a level table : ℕ) → Walk Page
 descend p a zero table = fail (cause_number (Absent zero))
 descend p a (suc l) table = after (entry_of p a (suc l) table) (λ e. follow e.target (descend p a l))

@@ -27,7 +27,7 @@ abbrev pub entry_bytes : Format → (level table a : ℕ) → List ℕ
 entry_bytes p level table a = span (entry_at p level table a) p.width
 
 module _ (p : Format) (m : Map) where
-  -- in a table of a level, the entry of an address is there and means what it means, or is not present
+  -- in a table of a level, all bytes of the entry of an address are there, and this is what it means
   abbrev pub EntryIs : (a level table : ℕ) → Option Entry → Type 0
   EntryIs a level table o = (raw : ℕ) × Holds m p.width (entry_at p level table a) raw × (p.decoded level raw ≡ o)
 

@@ -1,7 +1,7 @@
 ghost use Rattle.std.specs.Prelude.{◌≡◌, ◌+◌, ◌<◌, ◌≤◌};
 ghost use Rattle.paging.specs.Bits.{field as field_of, bits as bits_of, bit as bit-of};
 
-// Bits high:low of a number, as a number. The two stay two numbers: `bits(raw, 51, 12)` reads as the manual's 51:12.
+// Bits high:low of a number, as a number. Two numbers and no range, so that `bits(raw, 51, 12)` reads as the manual's 51:12.
 pub(crate) fn field(x: u64, high: u16, low: u16) -> u64
     requires { high < low + 63 }
     ensures { result ≡ field_of high low x }

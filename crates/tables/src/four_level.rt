@@ -63,11 +63,11 @@ fn an_entry_of_four_levels_breaks_the_walk(rt: HostRuntime) -> Result<(), Fail> 
 #[test]
 fn addresses_have_a_lower_and_an_upper_half(rt: HostRuntime) -> Result<(), Fail> {
     let mut board = laid::<u64>(&[
-        // through tables as high as entries can name
-        (0xf_ffff_ffff_f7f8, 0x8_0000_0000_2003),
-        (0x8_0000_0000_2ff8, 0x4_0000_0000_3003),
-        (0x4_0000_0000_3ff8, 0x2_0000_0000_4003),
-        (0x2_0000_0000_4ff8, 0x1_0000_0000_9003),
+        // through tables near the top of what 52 bits can name
+        (0xf_ffff_ffff_f7f8, 0xf_8000_0000_2003),
+        (0xf_8000_0000_2ff8, 0xf_4000_0000_3003),
+        (0xf_4000_0000_3ff8, 0xf_2000_0000_4003),
+        (0xf_2000_0000_4ff8, 0xf_1000_0000_9003),
         // present, and no other flag
         (0xf_ffff_ffff_f800, 0x5001),
         (0x5000, 0x6001),
@@ -80,7 +80,7 @@ fn addresses_have_a_lower_and_an_upper_half(rt: HostRuntime) -> Result<(), Fail>
     board.set(0, 0x7fff_fffe, b"yz")?;
     let paging = Paging::new(FourLevel, 0xf_ffff_ffff_f000, board);
     let cases = [
-        (0x7fff_ffff_ffff, goes(0x1_0000_0000_9fff, KIB_4)),
+        (0x7fff_ffff_ffff, goes(0xf_1000_0000_9fff, KIB_4)),
         (0xffff_8000_0000_0000, goes(0xa000, KIB_4)),
         (u64::MAX, goes(0x7fff_ffff, GIB_1)),
         (0x8000_0000_0000, Err(fault(0, 0x8000_0000_0000, 0x04))),
@@ -146,6 +146,8 @@ fn larger_pages_and_unread_bits(rt: HostRuntime) -> Result<(), Fail> {
         (0xbfff_ffff, goes(0xf_ffff_ffff_ffff, GIB_1)),
         (0xc021_2345, goes(0x81_2345, MIB_2)),
         (0xc000_0000, Err(fault(2, 0x5000, 0x77))),
+        // 2^32 is an address like any other
+        (0x1_0000_0000, Err(fault(2, 0x2020, 0x77))),
     ];
     translates(&rt, &paging, &cases);
     Ok(())

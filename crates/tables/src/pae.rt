@@ -6,7 +6,7 @@ use std::test::Fail;
 // Its index is 3 at level 3, 0xb at level 2 (0xb * 2 MiB = 0x160_0000) and 2 at level 1, and 0x345 is left.
 const WAY: u64 = 0xc160_2345;
 
-// Under root 0x1020 its entries are at 0x1020 + 8 * 3, 0x8_7654_3000 + 8 * 0xb and 0xf_ffff_ffff_f000 + 8 * 2. The last
+// Under root 0x1020 its entries are at 0x1020 + 8 * 3, 0x9_8765_4321_0000 + 8 * 0xb and 0xf_ffff_ffff_f000 + 8 * 2. The last
 // address has index 3 and then 0x1ff twice, and 8 * 0x1ff is 0xff8; of those two entries the flags are bit 0 alone.
 fn way() -> Way<'static, Pae, u64> {
     Way {
@@ -14,10 +14,10 @@ fn way() -> Way<'static, Pae, u64> {
         cr3: 0x1020,
         at: WAY,
         tables: &[
-            (0x1038, 0x8_7654_3003),
-            (0x8_7654_3058, 0xf_ffff_ffff_f003),
+            (0x1038, 0x9_8765_4321_0003),
+            (0x9_8765_4321_0058, 0xf_ffff_ffff_f003),
             (0xf_ffff_ffff_f010, 0xa_bcde_f012_3003),
-            (0x8_7654_3ff8, 0x9001),
+            (0x9_8765_4321_0ff8, 0x9001),
             (0x9ff8, 0x7001),
         ],
     }
@@ -34,8 +34,8 @@ fn three_levels_lead_to_a_page(rt: HostRuntime) -> Result<(), Fail> {
         // the entries beside those on the way, 8 bytes before and after, are not there
         (0xc160_1fff, Err(fault(2, 0xf_ffff_ffff_f008, 0x77))),
         (0xc160_3000, Err(fault(2, 0xf_ffff_ffff_f018, 0x77))),
-        (0xc15f_ffff, Err(fault(2, 0x8_7654_3050, 0x77))),
-        (0xc180_0000, Err(fault(2, 0x8_7654_3060, 0x77))),
+        (0xc15f_ffff, Err(fault(2, 0x9_8765_4321_0050, 0x77))),
+        (0xc180_0000, Err(fault(2, 0x9_8765_4321_0060, 0x77))),
         (0xbfff_ffff, Err(fault(2, 0x1030, 0x77))),
         (0x4000_0000, Err(fault(2, 0x1028, 0x77))),
         (0, Err(fault(2, 0x1020, 0x77))),
@@ -53,7 +53,7 @@ fn an_entry_of_three_levels_breaks_the_walk(rt: HostRuntime) -> Result<(), Fail>
     let way = way();
     let entries = [
         (0x1038, 0x13),
-        (0x8_7654_3058, 0x12),
+        (0x9_8765_4321_0058, 0x12),
         (0xf_ffff_ffff_f010, 0x11),
     ];
     // every bit but bit 0, without which an entry is not present
@@ -61,8 +61,8 @@ fn an_entry_of_three_levels_breaks_the_walk(rt: HostRuntime) -> Result<(), Fail>
     let bytes = [
         0x1038,
         0x103c,
-        0x8_7654_305b,
-        0x8_7654_305f,
+        0x9_8765_4321_005b,
+        0x9_8765_4321_005f,
         0xf_ffff_ffff_f010,
         0xf_ffff_ffff_f012,
     ];

@@ -78,8 +78,8 @@ fn an_entry_of_two_levels_breaks_the_walk(rt: HostRuntime) -> Result<(), Fail> {
 fn pages_of_4_mib_and_unread_bits(rt: HostRuntime) -> Result<(), Fail> {
     let board = laid::<u32>(&[
         (0x1004, 0x40_0083),
-        // base 0xffc0_0000, with bits 21 and 12 and all bits below it
-        (0x1008, 0xffe0_1fff),
+        // base 0xffc0_0000
+        (0x1008, u32::MAX),
         // bit 7 alone of the lower bits is clear, so it is the table at 0x2000; in its entry 5 bit 7 is no size
         (0x100c, 0x2f7f),
         (0x2014, 0x7654_3fff),

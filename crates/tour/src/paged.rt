@@ -1,6 +1,6 @@
 // The sample cart's dump through its page tables.
 
-use crate::tell::{tell_byte, tell_fill, tell_load, tell_set, tell_translation, tell_watched};
+use crate::tell::{tell_byte, tell_fill, tell_load, tell_patch, tell_set, tell_translation};
 use extents::Table;
 use images::{Image, LimeRange, load_lime};
 use overlays::Overlay;
@@ -27,9 +27,8 @@ fn walk<S: Space + Drop>(rt: &HostRuntime, dump: S) -> io::Result<()> {
     tell_translation(rt, &paging, 0x1000)?;
     tell_translation(rt, &paging, 0x200000)?;
     tell_translation(rt, &paging, 1 << 47)?;
-    println!(rt; "  a patch beside the way of 0000000000000ffc")?;
-    let watched = paging.patch_below(0x4008, b"\x02", 0xffc);
-    tell_watched(rt, 0xffc, watched)?;
+    // the next page's entry, which is not on the way of this address
+    tell_patch(rt, &mut paging, 0x4008, b"\x02", 0xffc)?;
     mend(rt, &mut Overlay::new(paging))
 }
 

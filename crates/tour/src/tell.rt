@@ -35,12 +35,24 @@ pub(crate) fn tell_set<S: Space>(
 ) -> io::Result<()> {
     let count = bytes.len();
     print!(rt; "  set of {count} at {first:016x}, depth {depth}: ")?;
-    let watched = watched_set(space, depth, first, bytes, at);
-    tell_outcome(rt, watched.outcome)?;
-    tell_watched(rt, at, watched)
+    tell_watched(rt, at, watched_set(space, depth, first, bytes, at))
 }
 
-pub(crate) fn tell_watched(rt: &HostRuntime, at: u64, watched: Watched) -> io::Result<()> {
+// The same right below paging.
+pub(crate) fn tell_patch<P: Scheme, S: Space>(
+    rt: &HostRuntime,
+    paging: &mut Paging<P, S>,
+    first: u64,
+    bytes: &[u8],
+    at: u64,
+) -> io::Result<()> {
+    let count = bytes.len();
+    print!(rt; "  set of {count} at {first:016x} below: ")?;
+    tell_watched(rt, at, paging.patch_below(first, bytes, at))
+}
+
+fn tell_watched(rt: &HostRuntime, at: u64, watched: Watched) -> io::Result<()> {
+    tell_outcome(rt, watched.outcome)?;
     print!(rt; "    before: ")?;
     tell_answer(rt, at, watched.before)?;
     print!(rt; "    after: ")?;
@@ -58,7 +70,7 @@ pub(crate) fn tell_clear<S: Space>(
     tell_outcome(rt, space.clear(depth, first, count))
 }
 
-pub(crate) fn tell_outcome(rt: &HostRuntime, outcome: Result<(), Refusal>) -> io::Result<()> {
+fn tell_outcome(rt: &HostRuntime, outcome: Result<(), Refusal>) -> io::Result<()> {
     match outcome {
         Ok(()) => println!(rt; "done"),
         Err(refusal) => println!(rt; "refused {refusal}"),
