@@ -2,7 +2,7 @@ use Rattle.std.specs.Prelude.{ℕ, Ok, Err, Result}
 use Rattle.spaces.specs.declared.cause.Cause.{Cause}
 use Rattle.spaces.specs.declared.cause.Cause.TheVariants.{NoExtent, NotStored}
 use Rattle.spaces.specs.declared.refusal.Refusal.{Refusal}
-use Rattle.spaces.specs.declared.refusal.Refusal.TheVariants.{PastTheEnd, NoOverlay, TooManyPatches, HeaderCut, BadHeader, Overlap, TableFull}
+use Rattle.spaces.specs.declared.refusal.Refusal.TheVariants.{WrongSum, NoEnd, BadForm, NoAddresses, WrongDigits, PastTheEnd, NoOverlay, TooManyPatches, HeaderCut, BadHeader, Overlap, TableFull}
 
 -- the number of a cause
 abbrev pub cause_number : Cause → ℕ
@@ -11,6 +11,11 @@ cause_number NotStored = 0x02
 
 -- the number of a refusal
 abbrev pub refusal_number : Refusal → ℕ
+refusal_number WrongSum = 0x20
+refusal_number NoEnd = 0x21
+refusal_number BadForm = 0x22
+refusal_number NoAddresses = 0x23
+refusal_number WrongDigits = 0x24
 refusal_number PastTheEnd = 0x25
 refusal_number NoOverlay = 0x26
 refusal_number TooManyPatches = 0x27

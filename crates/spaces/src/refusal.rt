@@ -9,7 +9,17 @@ use std::fmt;
 // Why a call is refused, each with its number.
 #[derive(Clone, Copy, Debug, PartialEq, Eq)]
 pub enum Refusal {
-    // A set or clear passes address 2^64 - 1.
+    // A frame's sum is another than its two digits say, or these are none.
+    WrongSum = 0x20,
+    // No `#` comes in time behind a `$`.
+    NoEnd = 0x21,
+    // A command does not have the form of its name.
+    BadForm = 0x22,
+    // It names no address.
+    NoAddresses = 0x23,
+    // It does not bring two digits for each address.
+    WrongDigits = 0x24,
+    // A read, a set or a clear passes address 2^64 - 1.
     PastTheEnd = 0x25,
     // At its depth there is no overlay.
     NoOverlay = 0x26,

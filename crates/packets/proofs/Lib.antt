@@ -1,0 +1,4 @@
+pub mod Sums
+pub mod Splitting
+pub mod Spelling
+pub mod Written

@@ -1,0 +1,82 @@
+use Rattle.std.specs.Prelude.{ℕ, ◌+◌, ◌*◌, ◌^◌, Bool, true, if◌then◌else◌, List, [], ◌∷◌, length, take, drop, codes, Some, None, Ok, Err, Option, Result, ◌==◌, nat_lt, is_some}
+use Rattle.std.specs.List.{list_all}
+use Rattle.std.specs.Str.{bytes_eq}
+use Rattle.std.specs.Option.{option_and_then}
+use Rattle.spaces.specs.declared.refusal.Refusal.{Refusal}
+use Rattle.spaces.specs.declared.refusal.Refusal.TheVariants.{BadForm, NoAddresses, WrongDigits, PastTheEnd}
+use Rattle.packets.specs.Digits.{digit, number, spelled}
+use Rattle.packets.specs.Splits.{split_once}
+use Rattle.packets.specs.Commands.{Asked, halted, read, write, registers, detach, thread, supported, depth, last_fault, unknown}
+
+-- an address and a number of addresses, with a comma between
+abbrev pub both : Option ℕ → Option ℕ → Option (ℕ × ℕ)
+both None o = None
+both (Some first) None = None
+both (Some first) (Some count) = Some (first, count)
+
+abbrev pub addresses : List ℕ → Option (ℕ × ℕ)
+addresses text = option_and_then (λ p. both (number p.0) (number p.1)) (split_once 44 text)
+
+-- the first that applies of no address, digits that are not two for each, and an end above 2 ^ 64 - 1
+abbrev pub judged : ℕ → ℕ → Bool → Asked → Result Asked Refusal
+judged first count fits asked =
+    if count == 0 then Err NoAddresses
+    else if fits then (if nat_lt (2 ^ 64) (first + count) then Err PastTheEnd else Ok asked)
+    else Err WrongDigits
+
+abbrev pub reading : Option (ℕ × ℕ) → Result Asked Refusal
+reading None = Err BadForm
+reading (Some (first, count)) = judged first count true (read first count)
+
+abbrev pub all_digits : List ℕ → Bool
+all_digits cs = list_all (λ c. is_some (digit c)) cs
+
+abbrev pub writing : Option (ℕ × ℕ) → List ℕ → Result Asked Refusal
+writing None digits = Err BadForm
+writing (Some (first, count)) digits = if all_digits digits then judged first count (length digits == 2 * count) (write first digits) else Err BadForm
+
+abbrev pub written : Option (List ℕ × List ℕ) → Result Asked Refusal
+written None = Err BadForm
+written (Some (place, digits)) = writing (addresses place) digits
+
+-- a depth in two digits
+abbrev pub deep : Option ℕ → Result Asked Refusal
+deep None = Err BadForm
+deep (Some d) = Ok (depth d)
+
+abbrev pub deepened : List ℕ → Result Asked Refusal
+deepened digits = if length digits == 2 then deep (spelled 0 digits) else Err BadForm
+
+abbrev pub begins : List ℕ → List ℕ → Bool
+begins name payload = bytes_eq (take (length name) payload) name
+
+abbrev pub query : List ℕ → Asked
+query payload =
+    if bytes_eq payload (codes "qaisle.fault") then last_fault
+    else if begins (codes "qSupported") payload then supported
+    else unknown
+
+abbrev pub setting : List ℕ → Result Asked Refusal
+setting payload = if begins (codes "Qaisle.depth:") payload then deepened (drop 13 payload) else Ok unknown
+
+-- a character that stands alone, or is no name
+abbrev pub alone : Asked → List ℕ → Asked
+alone asked [] = asked
+alone asked (c ∷ cs) = unknown
+
+-- what a payload asks for, by its first character and then by its name
+abbrev pub named : ℕ → List ℕ → List ℕ → Result Asked Refusal
+named c rest payload =
+    if c == 63 then Ok (alone halted rest)
+    else if c == 109 then reading (addresses rest)
+    else if c == 77 then written (split_once 58 rest)
+    else if c == 103 then Ok (alone registers rest)
+    else if c == 68 then Ok (alone detach rest)
+    else if c == 72 then Ok thread
+    else if c == 113 then Ok (query payload)
+    else if c == 81 then setting payload
+    else Ok unknown
+
+abbrev pub asked : List ℕ → Result Asked Refusal
+asked [] = Ok unknown
+asked (c ∷ rest) = named c rest (c ∷ rest)

@@ -1,0 +1,21 @@
+use Rattle.std.specs.Prelude.{◌≡◌, ℕ, ◌+◌, ◌%◌, Bool, cond, List, ◌++◌, length, drop, codes, Some, None, Option, nat_le}
+use Rattle.std.specs.List.{sum}
+use Rattle.packets.specs.Digits.{pair}
+
+-- the sum that a frame carries
+abbrev pub checksum : List ℕ → ℕ
+checksum payload = sum payload % 256
+
+-- a payload's frame
+abbrev pub framed : List ℕ → List ℕ
+framed payload = codes "$" ++ (payload ++ (codes "#" ++ pair (checksum payload)))
+
+-- whether a payload has a frame: it has at most 4,096 bytes
+abbrev pub has_frame : List ℕ → Bool
+has_frame payload = nat_le (length payload) 4096
+
+-- what writing a payload's frame into a reply buffer answers and leaves: its length and the frame in front of the buffer,
+-- whose rest is as it was; or none, and the buffer as it was
+pub record Frames (payload before after : List ℕ) (r : Option ℕ) : Type 0 where
+  pub how_many : r ≡ cond (has_frame payload) (Some (length payload + 4)) None
+  pub buffer : after ≡ cond (has_frame payload) (framed payload ++ drop (length payload + 4) before) before

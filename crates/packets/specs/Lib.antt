@@ -1,0 +1,7 @@
+pub mod Digits
+pub mod Splits
+pub mod Frames
+pub mod Items
+pub mod Hearing
+pub mod Commands
+pub mod Asking

@@ -1,0 +1,92 @@
+// The commands that have more than a name, each by what stands behind its first character.
+
+ghost use Rattle.std.specs.Prelude.{◌≡◌, ◌+◌, None, Ok};
+ghost use Rattle.std.specs.Option.{option_map};
+ghost use Rattle.spaces.specs.Edits.{ending, outcome};
+ghost use Rattle.packets.specs.Commands.{meant, meant_by};
+ghost use Rattle.packets.specs.Splits.{split_once};
+ghost use Rattle.packets.specs.Asking.{addresses, reading, written, all_digits, query, setting};
+
+use crate::command::Command;
+use crate::digits::{byte, number};
+use crate::split::split_once;
+use spaces::Refusal;
+
+// An address and a number of addresses, with a comma between.
+fn addresses(text: &[u8]) -> Option<(u64, u64)>
+    ensures { result ≡ addresses text.now }
+{
+    let (first, count) = split_once(text, b',')?;
+    Some((number(first)?, number(count)?))
+}
+
+fn all_digits(text: &[u8]) -> bool
+    ensures { result ≡ all_digits text.now }
+{
+    text.iter().all(|c| c.is_ascii_hexdigit())
+}
+
+// No address is above 2^64 - 1.
+fn within(first: u64, count: u64) -> Result<(), Refusal>
+    ensures { result ≡ outcome (ending (first + count) None) }
+{
+    if first as u128 + count as u128 > 1 << 64 {
+        return Err(Refusal::PastTheEnd);
+    }
+    Ok(())
+}
+
+// `A,L`
+pub(crate) fn read(text: &[u8]) -> Result<Command<'_>, Refusal>
+    ensures { meant_by result ≡ reading (addresses text.now) }
+{
+    let (first, count) = addresses(text).ok_or(Refusal::BadForm)?;
+    if count == 0 {
+        return Err(Refusal::NoAddresses);
+    }
+    within(first, count)?;
+    Ok(Command::Read { first, count })
+}
+
+// `A,L:` and digits
+pub(crate) fn write(text: &[u8]) -> Result<Command<'_>, Refusal>
+    ensures { meant_by result ≡ written (split_once 58 text.now) }
+{
+    let (place, digits) = split_once(text, b':').ok_or(Refusal::BadForm)?;
+    let (first, count) = addresses(place).ok_or(Refusal::BadForm)?;
+    if !all_digits(digits) {
+        return Err(Refusal::BadForm);
+    }
+    if count == 0 {
+        return Err(Refusal::NoAddresses);
+    }
+    if digits.len() as u128 != 2 * count as u128 {
+        return Err(Refusal::WrongDigits);
+    }
+    within(first, count)?;
+    Ok(Command::Write { first, digits })
+}
+
+// A name that begins with `q`.
+pub(crate) fn query(payload: &[u8]) -> Command<'_>
+    ensures { meant result ≡ query payload.now }
+{
+    if payload == b"qaisle.fault".as_slice() {
+        return Command::LastFault;
+    }
+    if payload.starts_with(b"qSupported") {
+        return Command::Supported;
+    }
+    Command::Unknown
+}
+
+// A name that begins with `Q`.
+pub(crate) fn setting(payload: &[u8]) -> Result<Command<'_>, Refusal>
+    ensures { meant_by result ≡ setting payload.now }
+{
+    let Some(digits) = payload.strip_prefix(b"Qaisle.depth:") else {
+        return Ok(Command::Unknown);
+    };
+    let digits = <[u8; 2]>::try_from(digits).ok().ok_or(Refusal::BadForm)?;
+    Ok(Command::Depth(byte(digits).ok_or(Refusal::BadForm)?))
+}

@@ -1,0 +1,53 @@
+ghost use Rattle.std.specs.Prelude.{◌≡◌};
+ghost use Rattle.packets.specs.Commands.{meant_by};
+ghost use Rattle.packets.specs.Asking.{asked};
+
+use crate::asking::{query, read, setting, write};
+use spaces::Refusal;
+
+// What a payload asks for.
+#[derive(Clone, Copy, Debug, PartialEq, Eq)]
+pub enum Command<'a> {
+    // `?`: why the target halted.
+    Halted,
+    // `m`: the bytes of so many addresses.
+    Read { first: u64, count: u64 },
+    // `M`: bytes are patched, each by two digits.
+    Write { first: u64, digits: &'a [u8] },
+    // `g`: the registers.
+    Registers,
+    // `D`: the debugger goes.
+    Detach,
+    // `H`: a thread is chosen.
+    Thread,
+    // `qSupported`: what is supported.
+    Supported,
+    // `Qaisle.depth:`: the depth at which bytes are patched.
+    Depth(u8),
+    // `qaisle.fault`: the last fault.
+    LastFault,
+    // Anything else.
+    Unknown,
+}
+
+impl<'a> Command<'a> {
+    // What a payload asks for, by its first character and then by its name.
+    pub fn parse(payload: &'a [u8]) -> Result<Command<'a>, Refusal>
+        ensures { meant_by result ≡ asked payload.now }
+    {
+        let Some((first, rest)) = payload.split_first() else {
+            return Ok(Command::Unknown);
+        };
+        match char::from(*first) {
+            '?' if rest.is_empty() => Ok(Command::Halted),
+            'm' => read(rest),
+            'M' => write(rest),
+            'g' if rest.is_empty() => Ok(Command::Registers),
+            'D' if rest.is_empty() => Ok(Command::Detach),
+            'H' => Ok(Command::Thread),
+            'q' => Ok(query(payload)),
+            'Q' => setting(payload),
+            _ => Ok(Command::Unknown),
+        }
+    }
+}

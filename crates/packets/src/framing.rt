@@ -1,0 +1,31 @@
+ghost use Rattle.std.specs.Prelude.{◌≡◌};
+ghost use Rattle.packets.specs.Frames.{checksum, Frames};
+
+use crate::digits::pair;
+
+// How many bytes a payload has at most, and the buffer that its frame fits in.
+pub const PAYLOAD: usize = 4_096;
+
+pub const REPLY: usize = PAYLOAD + 4;
+
+// The sum that a payload's frame carries.
+pub(crate) fn checksum(payload: &[u8]) -> u8
+    ensures { result ≡ checksum payload.now }
+{
+    payload.iter().fold(0, |sum, b| sum.wrapping_add(*b))
+}
+
+// Writes a payload's frame: how many bytes it has, or none where the payload is too long.
+pub fn frame(payload: &[u8], reply: &mut [u8; REPLY]) -> Option<usize>
+    ensures { Frames payload.now reply.old reply.new result }
+{
+    if payload.len() > PAYLOAD {
+        return None;
+    }
+    let end = payload.len() + 1;
+    let [high, low] = pair(checksum(payload));
+    reply[0] = b'$';
+    reply[1..end].copy_from_slice(payload);
+    reply[end..end + 3].copy_from_slice(&[b'#', high, low]);
+    Some(end + 3)
+}

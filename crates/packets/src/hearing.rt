@@ -1,0 +1,48 @@
+ghost use Rattle.std.specs.Prelude.{◌≡◌};
+ghost use Rattle.packets.specs.Items.{meant};
+ghost use Rattle.packets.specs.Splits.{split_once};
+ghost use Rattle.packets.specs.Hearing.{closed, opened, heard};
+
+use crate::digits::byte;
+use crate::framing::{PAYLOAD, checksum};
+use crate::item::Item;
+use crate::split::split_once;
+
+// A frame, by its payload and what there is behind its `#`.
+fn closed<'a>(payload: &'a [u8], rest: &[u8]) -> Item<'a>
+    ensures { meant result ≡ closed payload.now rest.now }
+{
+    let Some((digits, _)) = rest.split_first_chunk::<2>() else {
+        return Item::Unfinished;
+    };
+    if byte(*digits) == Some(checksum(payload)) {
+        Item::Packet { payload }
+    } else {
+        Item::WrongSum {
+            used: payload.len() + 4,
+        }
+    }
+}
+
+// A frame, by what there is behind its `$`.
+fn opened(bytes: &[u8]) -> Item<'_>
+    ensures { meant result ≡ opened bytes.now (split_once 35 bytes.now) }
+{
+    match split_once(bytes, b'#') {
+        Some((payload, rest)) if payload.len() <= PAYLOAD => closed(payload, rest),
+        None if bytes.len() <= PAYLOAD => Item::Unfinished,
+        _ => Item::NoEnd,
+    }
+}
+
+// What is heard first in the bytes received.
+pub fn hear(received: &[u8]) -> Item<'_>
+    ensures { meant result ≡ heard received.now }
+{
+    match received.split_first() {
+        Some((b'$', bytes)) => opened(bytes),
+        Some((b'-', _)) => Item::Resend,
+        Some(_) => Item::Ignored,
+        None => Item::Unfinished,
+    }
+}

@@ -1,0 +1,15 @@
+// GDB's remote protocol, on bytes: what is heard, what is framed, and what a payload asks for.
+#![tactic(auto)]
+
+mod asking;
+mod command;
+pub mod digits;
+mod framing;
+mod hearing;
+mod item;
+mod split;
+
+pub use command::Command;
+pub use framing::{PAYLOAD, REPLY, frame};
+pub use hearing::hear;
+pub use item::Item;
