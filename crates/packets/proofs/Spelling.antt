@@ -1,5 +1,8 @@
-use Rattle.std.proofs.Common.{◌≡◌, ℕ, ◌+◌, ◌*◌, ◌^◌, ◌<◌, ◌≤◌, List, ◌++◌, length, take, drop, arith, pow-add, pow_mono}
-use Rattle.packets.specs.Digits.{paired}
+use Rattle.std.proofs.Common.{◌≡◌, ℕ, zero, suc, ◌+◌, ◌-◌, ◌*◌, ◌/◌, ◌%◌, ◌^◌, ◌<◌, ◌≤◌, List, [], ◌∷◌, ◌++◌, length, take, drop, refl, arith, pow-add, pow_mono}
+use Rattle.std.specs.List.{slice_set}
+use Rattle.std.proofs.lemmas.List.{append_assoc}
+use Rattle.std.proofs.lemmas.Grind.{drop-set_at}
+use Rattle.packets.specs.Digits.{lower, digits, paired}
 
 -- one digit more behind at most fifteen
 module _ (n i : ℕ) (small : n < 2 ^ (4 * i)) where
@@ -15,3 +18,7 @@ pub record Paired (digits rest before after : List ℕ) (n : ℕ) : Type 0 where
   pub within : n ≤ length before
   pub left : drop n after ≡ drop n before
   pub so_far : paired digits ≡ take n after ++ paired rest
+
+-- the next lowest digit is put before those written
+pub one_before : (n m rest : ℕ) (xs : List ℕ) → n ≡ suc m → n ≤ length xs → digits n rest ++ drop n xs ≡ digits m (rest / 16) ++ drop m (slice_set xs m (lower (rest % 16)))
+one_before n m rest xs e k = let s = drop-set_at xs m m (lower (rest % 16)) in grind (arith, append_assoc (digits m (rest / 16)) (lower (rest % 16) ∷ []))

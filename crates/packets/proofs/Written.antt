@@ -4,7 +4,7 @@ use Rattle.std.proofs.lemmas.Bool.Decides.{nat_tests}
 use Rattle.std.proofs.lemmas.List.{append_assoc}
 use Rattle.std.proofs.lemmas.Grind.{common_steps}
 use borrow.Rule.Slice.PartMut.{put_mid}
-use Rattle.packets.specs.Digits.{pair}
+use Rattle.packets.specs.Digits.{digits}
 use Rattle.packets.specs.Frames.{checksum, Frames}
 
 -- a payload behind the first byte, and three bytes behind that
@@ -17,9 +17,9 @@ module _ (payload before : List ℕ) (room : length before ≡ 4100) (short : le
   abbrev n : ℕ
   n = length payload
 
-  pub frames : (front tail : List ℕ) → front ≡ payload → tail ≡ 35 ∷ pair (checksum payload)
+  pub frames : (front tail : List ℕ) → front ≡ payload → tail ≡ 35 ∷ digits 2 (checksum payload)
       → Frames payload before (put_mid (n + 1) (n + 1 + 3 - (n + 1)) (put_mid 1 (n + 1 - 1) (slice_set before 0 36) front) tail) (Some (n + 1 + 3))
   frames front tail e f =
       let t : nat_le (length payload) 4096 ≡ true = grind (arith, nat_tests) in
       let w = written before payload tail n (n + 1 + 3 - (n + 1)) (n + 1 - 1) refl (omega arith) (rw f refl) (omega arith) (omega arith) in
-      rw e (record { how_many = rw t (ap Some (omega arith)); buffer = rw t (w ∙ rw f (ap (λ xs. 36 ∷ xs) (sym (append_assoc payload (35 ∷ pair (checksum payload)) (drop (n + 4) before))))) })
+      rw e (record { how_many = rw t (ap Some (omega arith)); buffer = rw t (w ∙ rw f (ap (λ xs. 36 ∷ xs) (sym (append_assoc payload (35 ∷ digits 2 (checksum payload)) (drop (n + 4) before))))) })

@@ -1,4 +1,4 @@
-use Rattle.std.specs.Prelude.{◌≡◌, ℕ, ◌+◌, ◌-◌, ◌*◌, ◌/◌, ◌%◌, min, ◌&&◌, Bool, if◌then◌else◌, List, [], ◌∷◌, ◌++◌, length, take, drop, slice_index, codes, Some, None, Option, nat_le}
+use Rattle.std.specs.Prelude.{◌≡◌, ℕ, zero, suc, ◌+◌, ◌-◌, ◌*◌, ◌/◌, ◌%◌, min, ◌&&◌, Bool, if◌then◌else◌, List, [], ◌∷◌, ◌++◌, length, take, drop, slice_index, codes, Some, None, Option, nat_le}
 use Rattle.std.specs.List.{flat_map}
 use Rattle.std.specs.Option.{option_and_then}
 
@@ -28,13 +28,14 @@ spelled n (c ∷ cs) = option_and_then (λ d. spelled (16 * n + d) cs) (digit c)
 abbrev pub number : List ℕ → Option ℕ
 number cs = if among 1 16 (length cs) then spelled 0 cs else None
 
--- a byte as two digits
-abbrev pub pair : ℕ → List ℕ
-pair b = lower (b / 16) ∷ lower (b % 16) ∷ []
+-- the lowest digits of a number, so many
+abbrev pub digits : ℕ → ℕ → List ℕ
+digits zero n = []
+digits (suc width) n = digits width (n / 16) ++ (lower (n % 16) ∷ [])
 
 -- bytes, each as two digits
 abbrev pub spell : List ℕ → List ℕ
-spell bytes = flat_map pair bytes
+spell bytes = flat_map (digits 2) bytes
 
 -- the bytes in pairs of digits, up to the first pair that is none
 abbrev pub in_front : Option ℕ → List ℕ → List ℕ

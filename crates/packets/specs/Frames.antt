@@ -1,6 +1,6 @@
 use Rattle.std.specs.Prelude.{◌≡◌, ℕ, ◌+◌, ◌%◌, Bool, cond, List, ◌++◌, length, drop, codes, Some, None, Option, nat_le}
 use Rattle.std.specs.List.{sum}
-use Rattle.packets.specs.Digits.{pair}
+use Rattle.packets.specs.Digits.{digits}
 
 -- the sum that a frame carries
 abbrev pub checksum : List ℕ → ℕ
@@ -8,7 +8,7 @@ checksum payload = sum payload % 256
 
 -- a payload's frame
 abbrev pub framed : List ℕ → List ℕ
-framed payload = codes "$" ++ (payload ++ (codes "#" ++ pair (checksum payload)))
+framed payload = codes "$" ++ (payload ++ (codes "#" ++ digits 2 (checksum payload)))
 
 -- whether a payload has a frame: it has at most 4,096 bytes
 abbrev pub has_frame : List ℕ → Bool

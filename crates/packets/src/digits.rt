@@ -1,7 +1,7 @@
 // Hexadecimal digits: of either case in, lower case out.
 
 ghost use Rattle.std.specs.Prelude.{◌≡◌, ◌<◌, IfSome};
-ghost use Rattle.packets.specs.Digits.{digit, spelled, pair, number, paired, Places, Spells};
+ghost use Rattle.packets.specs.Digits.{digit, spelled, digits, number, paired, Places, Spells};
 
 const LOWER: &[u8; 16] = b"0123456789abcdef";
 
@@ -39,11 +39,17 @@ pub fn byte(digits: [u8; 2]) -> Option<u8>
     Some(digit(high)? * 16 + digit(low)?)
 }
 
-// A byte as two digits.
-pub fn pair(byte: u8) -> [u8; 2]
-    ensures { result ≡ pair byte }
+// The lowest N digits of a number.
+pub fn of<const N: usize>(number: u64) -> [u8; N]
+    ensures { result ≡ digits N number }
 {
-    [LOWER[usize::from(byte / 16)], LOWER[usize::from(byte % 16)]]
+    let mut digits = [0; N];
+    let mut rest = number;
+    for n in (0..N).rev() {
+        digits[n] = LOWER[(rest % 16) as usize];
+        rest /= 16;
+    }
+    digits
 }
 
 // Bytes as digits, as many bytes as the buffer has room for: the number of digits.
@@ -52,7 +58,7 @@ pub fn spell(bytes: &[u8], out: &mut [u8]) -> usize
 {
     let count = bytes.len().min(out.len() / 2);
     for (n, b) in bytes[..count].iter().enumerate() {
-        out[2 * n..2 * n + 2].copy_from_slice(&pair(*b));
+        out[2 * n..2 * n + 2].copy_from_slice(&of::<2>(*b as u64));
     }
     2 * count
 }

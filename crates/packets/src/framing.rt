@@ -1,7 +1,7 @@
 ghost use Rattle.std.specs.Prelude.{◌≡◌};
 ghost use Rattle.packets.specs.Frames.{checksum, Frames};
 
-use crate::digits::pair;
+use crate::digits;
 
 // How many bytes a payload has at most, and the buffer that its frame fits in.
 pub const PAYLOAD: usize = 4_096;
@@ -23,7 +23,7 @@ pub fn frame(payload: &[u8], reply: &mut [u8; REPLY]) -> Option<usize>
         return None;
     }
     let end = payload.len() + 1;
-    let [high, low] = pair(checksum(payload));
+    let [high, low] = digits::of::<2>(checksum(payload) as u64);
     reply[0] = b'$';
     reply[1..end].copy_from_slice(payload);
     reply[end..end + 3].copy_from_slice(&[b'#', high, low]);
