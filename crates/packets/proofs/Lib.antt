@@ -2,3 +2,4 @@ pub mod Sums
 pub mod Splitting
 pub mod Spelling
 pub mod Written
+pub mod Hearings

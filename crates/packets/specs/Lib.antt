@@ -5,3 +5,4 @@ pub mod Items
 pub mod Hearing
 pub mod Commands
 pub mod Asking
+pub mod Streams

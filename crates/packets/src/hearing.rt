@@ -2,6 +2,7 @@ ghost use Rattle.std.specs.Prelude.{◌≡◌};
 ghost use Rattle.packets.specs.Items.{meant};
 ghost use Rattle.packets.specs.Splits.{split_once};
 ghost use Rattle.packets.specs.Hearing.{closed, opened, heard};
+ghost use Rattle.packets.specs.Streams.{Hears};
 
 use crate::digits::byte;
 use crate::framing::{PAYLOAD, checksum};
@@ -35,8 +36,7 @@ fn opened(bytes: &[u8]) -> Item<'_>
     }
 }
 
-// What is heard first in the bytes received.
-pub fn hear(received: &[u8]) -> Item<'_>
+fn heard(received: &[u8]) -> Item<'_>
     ensures { meant result ≡ heard received.now }
 {
     match received.split_first() {
@@ -45,4 +45,12 @@ pub fn hear(received: &[u8]) -> Item<'_>
         Some(_) => Item::Ignored,
         None => Item::Unfinished,
     }
+}
+
+// What is heard first in the bytes received.
+pub fn hear(received: &[u8]) -> Item<'_>
+    ensures is { meant result ≡ heard received.now }
+    ensures law { Hears received.now (meant result) }
+{
+    heard(received)
 }

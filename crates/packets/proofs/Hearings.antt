@@ -1,0 +1,118 @@
+use Rattle.std.proofs.Common.{◌≡◌, ◌≢◌, ℕ, ◌+◌, ◌<◌, ◌≤◌, List, [], ◌∷◌, ◌++◌, length, take, drop, Some, None, Option, Bool, true, false, if◌then◌else◌, zero, suc, ◌==◌, refl, sym, subst, ◌∙◌, ap, arith}
+use Rattle.std.proofs.lemmas.Bool.Decides.{nat_tests}
+use Rattle.std.proofs.lemmas.Grind.{common_steps}
+use Rattle.std.proofs.lemmas.List.{append_assoc, append-nil, length-append, length-take, take-append-drop, drop_at}
+use Rattle.packets.specs.Digits.{spelled}
+use Rattle.packets.specs.Splits.{split_once, Lacks}
+use Rattle.packets.specs.Frames.{checksum, has_frame}
+use Rattle.packets.specs.Items.{Heard, unfinished, resend, ignored, wrong_sum, no_end, packet, said}
+use Rattle.packets.specs.Hearing.{weighed, closed, opened, heard}
+use Rattle.packets.specs.Streams.{enclosed, Begins, nothing, no_hash_yet, no_digits_yet, minus, other, wrong, endless, good, Hears}
+use Rattle.packets.proofs.Splitting.{Split, splits, split_found, split_none, Behind, split_behind}
+
+-- What a stream begins with is what is heard.
+
+opened_at : (payload behind : List ℕ) → Lacks 35 payload → length payload ≤ 4096 → heard (enclosed payload behind) ≡ closed payload behind
+opened_at payload behind h k = grind (arith, nat_tests, split_found 35 payload behind h)
+
+heard_is : (s : List ℕ) (item : Heard) (rest : List ℕ) → Begins s item rest → heard s ≡ item
+heard_is s item rest nothing = refl
+heard_is s item rest (no_hash_yet bytes h k) = grind (arith, nat_tests, split_none 35 bytes h)
+heard_is s item rest (no_digits_yet payload [] h k l) = opened_at payload [] h k
+heard_is s item rest (no_digits_yet payload (c ∷ []) h k l) = opened_at payload (c ∷ []) h k
+heard_is s item rest (no_digits_yet payload (c ∷ d ∷ cs) h k l) = absurd (omega arith)
+heard_is s item rest (minus r) = refl
+heard_is s item rest (other b r h k) = grind (arith, nat_tests)
+heard_is s item rest (wrong payload high low r h k l) = opened_at payload (high ∷ low ∷ r) h k ∙ grind (arith, nat_tests)
+heard_is s item rest (endless bytes r h k) = step (split_once 35 (bytes ++ r)) (split_behind 35 bytes r h) refl
+  where
+    step : (w : Option (List ℕ × List ℕ)) → Behind bytes w → split_once 35 (bytes ++ r) ≡ w → heard (36 ∷ (bytes ++ r)) ≡ no_end
+    step None b e = grind (arith, nat_tests, length-append bytes r)
+    step (Some p) b e = grind (arith, nat_tests)
+heard_is s item rest (good payload high low r h k l) = opened_at payload (high ∷ low ∷ r) h k ∙ grind (arith, nat_tests)
+
+-- what is heard stands at the stream's head
+
+pub record AtHead (s : List ℕ) (item : Heard) : Type 0 where
+  pub within : (said item).used ≤ length s
+  pub begins : Begins s item (drop (said item).used s)
+
+long : (payload rest : List ℕ) (high low : ℕ) → length (enclosed payload (high ∷ low ∷ rest)) ≡ length payload + 4 + length rest
+long payload rest high low = grind (arith, length-append payload (35 ∷ high ∷ low ∷ rest))
+
+behind_frame : (payload rest : List ℕ) (high low : ℕ) → drop (length payload + 4) (enclosed payload (high ∷ low ∷ rest)) ≡ rest
+behind_frame payload rest high low =
+    let e : length payload + 4 ≡ suc (length payload + 3) = omega arith in
+    rw (e, sym (append_assoc payload (35 ∷ high ∷ low ∷ []) rest)) (drop_at (payload ++ (35 ∷ high ∷ low ∷ [])) rest (length payload + 3) (length-append payload (35 ∷ high ∷ low ∷ [])))
+
+closed_at_head : (payload behind : List ℕ) → Lacks 35 payload → length payload ≤ 4096 → AtHead (enclosed payload behind) (closed payload behind)
+closed_at_head payload [] h k = record { within = omega arith; begins = no_digits_yet payload [] h k (omega arith) }
+closed_at_head payload (c ∷ []) h k = record { within = omega arith; begins = no_digits_yet payload (c ∷ []) h k (omega arith) }
+closed_at_head payload (high ∷ low ∷ rest) h k = step (spelled 0 (high ∷ low ∷ [])) refl
+  where
+    fits : length payload + 4 ≤ length (enclosed payload (high ∷ low ∷ rest))
+    fits = omega (arith, long payload rest high low)
+
+    bad : spelled 0 (high ∷ low ∷ []) ≢ Some (checksum payload) → AtHead (enclosed payload (high ∷ low ∷ rest)) (wrong_sum (length payload + 4))
+    bad n = record { within = fits; begins = rw (behind_frame payload rest high low) (wrong payload high low rest h k n) }
+
+    sum_step : (n : ℕ) → spelled 0 (high ∷ low ∷ []) ≡ Some n → (t : Bool) → (n == checksum payload) ≡ t → AtHead (enclosed payload (high ∷ low ∷ rest)) (if t then packet payload else wrong_sum (length payload + 4))
+    sum_step n e true q = record { within = fits; begins = rw (behind_frame payload rest high low) (good payload high low rest h k (grind (arith, nat_tests))) }
+    sum_step n e false q = bad (λ f. grind (arith, nat_tests))
+
+    step : (w : Option ℕ) → spelled 0 (high ∷ low ∷ []) ≡ w → AtHead (enclosed payload (high ∷ low ∷ rest)) (weighed payload w)
+    step None e = bad (λ f. cc)
+    step (Some n) e = sum_step n e (n == checksum payload) refl
+
+lacks_take : (mark n : ℕ) (bs : List ℕ) → Lacks mark bs → Lacks mark (take n bs)
+lacks_take mark zero bs h = tt
+lacks_take mark (suc n) [] h = tt
+lacks_take mark (suc n) (b ∷ bs) h = (h.0, lacks_take mark n bs h.1)
+
+no_end_at_head : (front rest : List ℕ) → Lacks 35 front → 4097 ≤ length front → AtHead (36 ∷ (front ++ rest)) no_end
+no_end_at_head front rest h k = record { within = omega arith; begins = cut 4097 k refl }
+  where
+    cut : (n : ℕ) → n ≤ length front → n ≡ 4097 → Begins (36 ∷ (front ++ rest)) no_end (front ++ rest)
+    cut n l e =
+        let t = endless (take n front) (drop n front ++ rest) (lacks_take 35 n front h) (omega (arith, length-take n front)) in
+        subst (λ xs. Begins (36 ∷ xs) no_end xs) (sym (append_assoc (take n front) (drop n front) rest) ∙ ap (λ xs. xs ++ rest) (take-append-drop n front)) t
+
+opened_at_head : (bytes : List ℕ) (w : Option (List ℕ × List ℕ)) → Split 35 bytes w → AtHead (36 ∷ bytes) (opened bytes w)
+opened_at_head bytes None s = step (has_frame bytes) refl
+  where
+    step : (t : Bool) → has_frame bytes ≡ t → AtHead (36 ∷ bytes) (if t then unfinished else no_end)
+    step true q = record { within = omega arith; begins = no_hash_yet bytes s (grind (arith, nat_tests)) }
+    step false q = subst (λ xs. AtHead (36 ∷ xs) no_end) (append-nil bytes) (no_end_at_head bytes [] s (grind (arith, nat_tests)))
+opened_at_head bytes (Some p) s = step (has_frame p.0) refl
+  where
+    step : (t : Bool) → has_frame p.0 ≡ t → AtHead (36 ∷ bytes) (if t then closed p.0 p.1 else no_end)
+    step true q = rw s.1 (closed_at_head p.0 p.1 s.0 (grind (arith, nat_tests)))
+    step false q = rw s.1 (no_end_at_head p.0 (35 ∷ p.1) s.0 (grind (arith, nat_tests)))
+
+heard_at_head : (s : List ℕ) → AtHead s (heard s)
+heard_at_head [] = record { within = omega arith; begins = nothing }
+heard_at_head (c ∷ bytes) = step (c == 36) (c == 45) refl refl
+  where
+    step : (t u : Bool) → (c == 36) ≡ t → (c == 45) ≡ u → AtHead (c ∷ bytes) (if t then opened bytes (split_once 35 bytes) else if u then resend else ignored)
+    step true u e f = let is : c ≡ 36 = grind (arith, nat_tests) in rw is (opened_at_head bytes (split_once 35 bytes) (splits 35 bytes))
+    step false true e f = let is : c ≡ 45 = grind (arith, nat_tests) in rw is (record { within = omega arith; begins = minus bytes })
+    step false false e f = record { within = omega arith; begins = other c bytes (grind (arith, nat_tests)) (grind (arith, nat_tests)) }
+
+-- more bytes behind an item change nothing
+settled : (s : List ℕ) (item : Heard) (rest more : List ℕ) → Begins s item rest → item ≢ unfinished → Begins (s ++ more) item (rest ++ more)
+settled s item rest more nothing n = absurd (n refl)
+settled s item rest more (no_hash_yet bytes h k) n = absurd (n refl)
+settled s item rest more (no_digits_yet payload digits h k l) n = absurd (n refl)
+settled s item rest more (minus r) n = minus (r ++ more)
+settled s item rest more (other b r h k) n = other b (r ++ more) h k
+settled s item rest more (wrong payload high low r h k l) n = rw (append_assoc payload (35 ∷ high ∷ low ∷ r) more) (wrong payload high low (r ++ more) h k l)
+settled s item rest more (endless bytes r h k) n = rw (append_assoc bytes r more) (endless bytes (r ++ more) h k)
+settled s item rest more (good payload high low r h k l) n = rw (append_assoc payload (35 ∷ high ∷ low ∷ r) more) (good payload high low (r ++ more) h k l)
+
+pub hears : (s : List ℕ) → Hears s (heard s)
+hears s = let t = heard_at_head s in record {
+  within = t.within;
+  begins = t.begins;
+  only = λ other rest b. sym (heard_is s other rest b);
+  settled = λ n more. settled s (heard s) (drop (said (heard s)).used s) more t.begins n;
+}

@@ -1,0 +1,33 @@
+use Rattle.std.specs.Prelude.{◌≡◌, ◌≢◌, ℕ, ◌+◌, ◌<◌, ◌≤◌, List, [], ◌∷◌, ◌++◌, length, take, drop, Some}
+use Rattle.packets.specs.Digits.{spelled}
+use Rattle.packets.specs.Splits.{Lacks}
+use Rattle.packets.specs.Frames.{checksum}
+use Rattle.packets.specs.Items.{Heard, unfinished, resend, ignored, wrong_sum, no_end, packet, said}
+
+-- Streams, in the protocol's words: `$` is 36, `#` 35, `-` 45.
+
+-- a frame, by its payload and all that comes behind its `#`
+abbrev pub enclosed : List ℕ → List ℕ → List ℕ
+enclosed payload behind = 36 ∷ (payload ++ (35 ∷ behind))
+
+-- a stream begins with an item, and this is what comes behind it
+pub data Begins : List ℕ → Heard → List ℕ → Type 0 where
+  nothing : Begins [] unfinished []
+  no_hash_yet : (bytes : List ℕ) → Lacks 35 bytes → length bytes ≤ 4096 → Begins (36 ∷ bytes) unfinished (36 ∷ bytes)
+  no_digits_yet : (payload digits : List ℕ) → Lacks 35 payload → length payload ≤ 4096 → length digits < 2
+      → Begins (enclosed payload digits) unfinished (enclosed payload digits)
+  minus : (rest : List ℕ) → Begins (45 ∷ rest) resend rest
+  other : (b : ℕ) (rest : List ℕ) → b ≢ 36 → b ≢ 45 → Begins (b ∷ rest) ignored rest
+  wrong : (payload : List ℕ) (high low : ℕ) (rest : List ℕ) → Lacks 35 payload → length payload ≤ 4096 → spelled 0 (high ∷ low ∷ []) ≢ Some (checksum payload)
+      → Begins (enclosed payload (high ∷ low ∷ rest)) (wrong_sum (length payload + 4)) rest
+  endless : (bytes rest : List ℕ) → Lacks 35 bytes → length bytes ≡ 4097 → Begins (36 ∷ (bytes ++ rest)) no_end (bytes ++ rest)
+  good : (payload : List ℕ) (high low : ℕ) (rest : List ℕ) → Lacks 35 payload → length payload ≤ 4096 → spelled 0 (high ∷ low ∷ []) ≡ Some (checksum payload)
+      → Begins (enclosed payload (high ∷ low ∷ rest)) (packet payload) rest
+
+-- What hearing says of the bytes received: they begin with the item, and with no other; it uses at most these bytes, and what
+-- comes behind them changes nothing.
+pub record Hears (received : List ℕ) (item : Heard) : Type 0 where
+  pub within : (said item).used ≤ length received
+  pub begins : Begins received item (drop (said item).used received)
+  pub only : (other : Heard) (rest : List ℕ) → Begins received other rest → other ≡ item
+  pub settled : (item ≡ unfinished → ⊥) → (more : List ℕ) → Begins (received ++ more) item (drop (said item).used received ++ more)
