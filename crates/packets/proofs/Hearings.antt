@@ -1,13 +1,14 @@
-use Rattle.std.proofs.Common.{◌≡◌, ◌≢◌, ℕ, ◌+◌, ◌<◌, ◌≤◌, List, [], ◌∷◌, ◌++◌, length, take, drop, Some, None, Option, Bool, true, false, if◌then◌else◌, zero, suc, ◌==◌, refl, sym, subst, ◌∙◌, ap, arith}
+use Rattle.std.proofs.Common.{◌≡◌, ◌≢◌, ℕ, ◌+◌, ◌/◌, ◌%◌, ◌<◌, ◌≤◌, List, [], ◌∷◌, ◌++◌, length, take, drop, Some, None, Option, Bool, true, false, if◌then◌else◌, cond, zero, suc, ◌==◌, refl, sym, subst, ◌∙◌, ap, arith}
 use Rattle.std.proofs.lemmas.Bool.Decides.{nat_tests}
 use Rattle.std.proofs.lemmas.Grind.{common_steps}
-use Rattle.std.proofs.lemmas.List.{append_assoc, append-nil, length-append, length-take, take-append-drop, drop_at}
-use Rattle.packets.specs.Digits.{spelled}
+use Rattle.std.proofs.lemmas.List.{append_assoc, append-nil, length-append, length-take, take-append-drop, take_at, drop_at}
+use Rattle.packets.specs.Digits.{lower, digits, spelled}
 use Rattle.packets.specs.Splits.{split_once, Lacks}
-use Rattle.packets.specs.Frames.{checksum, has_frame}
+use Rattle.packets.specs.Frames.{checksum, framed, has_frame, Frames}
 use Rattle.packets.specs.Items.{Heard, unfinished, resend, ignored, wrong_sum, no_end, packet, said}
 use Rattle.packets.specs.Hearing.{weighed, closed, opened, heard}
 use Rattle.packets.specs.Streams.{enclosed, Begins, nothing, no_hash_yet, no_digits_yet, minus, other, wrong, endless, good, Hears}
+use Rattle.packets.proofs.Reading.{read_digits}
 use Rattle.packets.proofs.Splitting.{Split, splits, split_found, split_none, Behind, split_behind}
 
 -- What a stream begins with is what is heard.
@@ -116,3 +117,23 @@ hears s = let t = heard_at_head s in record {
   only = λ other rest b. sym (heard_is s other rest b);
   settled = λ n more. settled s (heard s) (drop (said (heard s)).used s) more t.begins n;
 }
+
+-- a payload's frame is heard as the payload, whatever comes behind it
+pub framed_heard : (payload more : List ℕ) → Lacks 35 payload → length payload ≤ 4096 → Hears (framed payload ++ more) (packet payload)
+framed_heard payload more h k =
+    let sum = checksum payload in
+    let e = read_digits 2 sum (omega arith) in
+    let s : framed payload ++ more ≡ enclosed payload (digits 2 sum ++ more) = ap (λ xs. 36 ∷ xs) (append_assoc payload (35 ∷ digits 2 sum) more) in
+    let b = good payload (lower (sum / 16 % 16)) (lower (sum % 16)) more h k e in
+    rw s (subst (Hears (enclosed payload (digits 2 sum ++ more))) (heard_is (enclosed payload (digits 2 sum ++ more)) (packet payload) more b) (hears (enclosed payload (digits 2 sum ++ more))))
+
+pub front_heard : (payload before after : List ℕ) (n : ℕ) → Frames payload before after (Some n) → Lacks 35 payload → (more : List ℕ) → Hears (take n after ++ more) (packet payload)
+front_heard payload before after n f h more = step (has_frame payload) refl f.how_many f.buffer
+  where
+    step : (t : Bool) → has_frame payload ≡ t → Some n ≡ cond t (Some (length payload + 4)) None → after ≡ cond t (framed payload ++ drop (length payload + 4) before) before
+        → Hears (take n after ++ more) (packet payload)
+    step false q e b = cc
+    step true q e b =
+        let k : n ≡ length payload + 4 = cc in
+        let l : length (framed payload) ≡ n = grind (arith, length-append payload (35 ∷ digits 2 (checksum payload))) in
+        rw (b, take_at (framed payload) (drop (length payload + 4) before) n l) (framed_heard payload more h (grind (arith, nat_tests)))

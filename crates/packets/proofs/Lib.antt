@@ -3,3 +3,4 @@ pub mod Splitting
 pub mod Spelling
 pub mod Written
 pub mod Hearings
+pub mod Reading

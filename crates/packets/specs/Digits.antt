@@ -1,4 +1,4 @@
-use Rattle.std.specs.Prelude.{◌≡◌, ℕ, zero, suc, ◌+◌, ◌-◌, ◌*◌, ◌/◌, ◌%◌, min, ◌&&◌, Bool, if◌then◌else◌, List, [], ◌∷◌, ◌++◌, length, take, drop, slice_index, codes, Some, None, Option, nat_le}
+use Rattle.std.specs.Prelude.{◌≡◌, ℕ, zero, suc, ◌+◌, ◌-◌, ◌*◌, ◌/◌, ◌%◌, min, ◌&&◌, Bool, if◌then◌else◌, List, [], ◌∷◌, ◌++◌, length, take, drop, Some, None, Option, nat_le, nat_lt}
 use Rattle.std.specs.List.{flat_map}
 use Rattle.std.specs.Option.{option_and_then}
 
@@ -17,7 +17,7 @@ digit c =
 
 -- the digit of a value below 16, in lower case
 abbrev pub lower : ℕ → ℕ
-lower n = slice_index (codes "0123456789abcdef") n
+lower n = if nat_lt n 10 then 48 + n else 87 + n
 
 -- the number that digits spell, the highest first, where those before them spell n; none if one is no digit
 abbrev pub spelled : ℕ → List ℕ → Option ℕ

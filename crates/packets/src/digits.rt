@@ -1,9 +1,7 @@
 // Hexadecimal digits: of either case in, lower case out.
 
-ghost use Rattle.std.specs.Prelude.{◌≡◌, ◌<◌, IfSome};
-ghost use Rattle.packets.specs.Digits.{digit, spelled, digits, number, paired, Places, Spells};
-
-const LOWER: &[u8; 16] = b"0123456789abcdef";
+ghost use Rattle.std.specs.Prelude.{◌≡◌, ◌*◌, ◌/◌, ◌^◌, ◌<◌, ◌≤◌, length, take, Some, IfSome};
+ghost use Rattle.packets.specs.Digits.{digit, lower, spelled, digits, number, paired, Places, Spells};
 
 fn digit(c: u8) -> Option<u8>
     ensures value { result ≡ digit c }
@@ -39,14 +37,26 @@ pub fn byte(digits: [u8; 2]) -> Option<u8>
     Some(digit(high)? * 16 + digit(low)?)
 }
 
+// The digit of a value.
+fn lower(value: u8) -> u8
+    requires { value < 16 }
+    ensures { result ≡ lower value }
+{
+    if value < 10 {
+        return b'0' + value;
+    }
+    b'a' + (value - 10)
+}
+
 // The lowest N digits of a number.
-pub fn of<const N: usize>(number: u64) -> [u8; N]
-    ensures { result ≡ digits N number }
+pub fn of<const N: usize>(value: u64) -> [u8; N]
+    ensures is { result ≡ digits N value }
+    ensures back { 0 < N → N ≤ 16 → value < 2 ^ (4 * N) → number result ≡ Some value }
 {
     let mut digits = [0; N];
-    let mut rest = number;
+    let mut rest = value;
     for n in (0..N).rev() {
-        digits[n] = LOWER[(rest % 16) as usize];
+        digits[n] = lower((rest % 16) as u8);
         rest /= 16;
     }
     digits
@@ -54,7 +64,8 @@ pub fn of<const N: usize>(number: u64) -> [u8; N]
 
 // Bytes as digits, as many bytes as the buffer has room for: the number of digits.
 pub fn spell(bytes: &[u8], out: &mut [u8]) -> usize
-    ensures { Spells bytes.now out.old out.new result }
+    ensures is { Spells bytes.now out.old out.new result }
+    ensures back { paired (take result out.new) ≡ take (length out.old / 2) bytes.now }
 {
     let count = bytes.len().min(out.len() / 2);
     for (n, b) in bytes[..count].iter().enumerate() {

@@ -1,5 +1,8 @@
-ghost use Rattle.std.specs.Prelude.{◌≡◌};
+ghost use Rattle.std.specs.Prelude.{◌≡◌, ℕ, List, ◌++◌, take, IfSome};
+ghost use Rattle.packets.specs.Splits.{Lacks};
 ghost use Rattle.packets.specs.Frames.{checksum, Frames};
+ghost use Rattle.packets.specs.Items.{packet};
+ghost use Rattle.packets.specs.Streams.{Hears};
 
 use crate::digits;
 
@@ -17,7 +20,8 @@ pub(crate) fn checksum(payload: &[u8]) -> u8
 
 // Writes a payload's frame: how many bytes it has, or none where the payload is too long.
 pub fn frame(payload: &[u8], reply: &mut [u8; REPLY]) -> Option<usize>
-    ensures { Frames payload.now reply.old reply.new result }
+    ensures is { Frames payload.now reply.old reply.new result }
+    ensures heard_back { IfSome result (λ n. Lacks 35 payload.now → (more : List ℕ) → Hears (take n reply.new ++ more) (packet payload.now)) }
 {
     if payload.len() > PAYLOAD {
         return None;

@@ -6,5 +6,5 @@ use Rattle.packets.proofs.digits.of.Given as goal
 abbrev pub invariant-loop-n : goal.invariant-loop-n
 invariant-loop-n g l = record {
   long : length l.digits ≡ g.row.N;
-  so_far : digits g.row.N l.number ≡ digits l.n l.rest ++ drop l.n l.digits;
+  so_far : digits g.row.N l.value ≡ digits l.n l.rest ++ drop l.n l.digits;
 }
