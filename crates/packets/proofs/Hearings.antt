@@ -110,12 +110,29 @@ settled s item rest more (wrong payload high low r h k l) n = rw (append_assoc p
 settled s item rest more (endless bytes r h k) n = rw (append_assoc bytes r more) (endless bytes (r ++ more) h k)
 settled s item rest more (good payload high low r h k l) n = rw (append_assoc payload (35 ∷ high ∷ low ∷ r) more) (good payload high low (r ++ more) h k l)
 
+front_of_frame : (payload rest : List ℕ) (high low : ℕ) → take (length payload + 4) (enclosed payload (high ∷ low ∷ rest)) ≡ enclosed payload (high ∷ low ∷ [])
+front_of_frame payload rest high low =
+    let e : length payload + 4 ≡ suc (length payload + 3) = omega arith in
+    rw (e, sym (append_assoc payload (35 ∷ high ∷ low ∷ []) rest)) (ap (λ xs. 36 ∷ xs) (take_at (payload ++ (35 ∷ high ∷ low ∷ [])) rest (length payload + 3) (length-append payload (35 ∷ high ∷ low ∷ []))))
+
+-- what comes behind an item changes nothing
+alone : (s : List ℕ) (item : Heard) (rest more : List ℕ) → Begins s item rest → item ≢ unfinished → item ≢ no_end → Begins (take (said item).used s ++ more) item more
+alone s item rest more nothing n m = absurd (n refl)
+alone s item rest more (no_hash_yet bytes h k) n m = absurd (n refl)
+alone s item rest more (no_digits_yet payload digits h k l) n m = absurd (n refl)
+alone s item rest more (minus r) n m = minus more
+alone s item rest more (other b r h k) n m = other b more h k
+alone s item rest more (wrong payload high low r h k l) n m = rw (front_of_frame payload r high low, append_assoc payload (35 ∷ high ∷ low ∷ []) more) (wrong payload high low more h k l)
+alone s item rest more (endless bytes r h k) n m = absurd (m refl)
+alone s item rest more (good payload high low r h k l) n m = rw (front_of_frame payload r high low, append_assoc payload (35 ∷ high ∷ low ∷ []) more) (good payload high low more h k l)
+
 pub hears : (s : List ℕ) → Hears s (heard s)
 hears s = let t = heard_at_head s in record {
   within = t.within;
   begins = t.begins;
   only = λ other rest b. sym (heard_is s other rest b);
   settled = λ n more. settled s (heard s) (drop (said (heard s)).used s) more t.begins n;
+  alone = λ n m more. alone s (heard s) (drop (said (heard s)).used s) more t.begins n m;
 }
 
 -- a payload's frame is heard as the payload, whatever comes behind it

@@ -1,4 +1,5 @@
 use Rattle.std.specs.Prelude.{◌≡◌, ◌≢◌, ℕ, ◌+◌, ◌<◌, ◌≤◌, List, [], ◌∷◌, ◌++◌, length, take, drop, Some}
+use Rattle.std.specs.List.{sum_by}
 use Rattle.packets.specs.Digits.{spelled}
 use Rattle.packets.specs.Splits.{Lacks}
 use Rattle.packets.specs.Frames.{checksum}
@@ -25,9 +26,31 @@ pub data Begins : List ℕ → Heard → List ℕ → Type 0 where
       → Begins (enclosed payload (high ∷ low ∷ rest)) (packet payload) rest
 
 -- What hearing says of the bytes received: they begin with the item, and with no other; it uses at most these bytes, and what
--- comes behind them changes nothing.
+-- comes behind them changes nothing. Nor does what comes behind the item, unless it is a `$` with no end in sight.
 pub record Hears (received : List ℕ) (item : Heard) : Type 0 where
   pub within : (said item).used ≤ length received
   pub begins : Begins received item (drop (said item).used received)
   pub only : (other : Heard) (rest : List ℕ) → Begins received other rest → other ≡ item
-  pub settled : (item ≡ unfinished → ⊥) → (more : List ℕ) → Begins (received ++ more) item (drop (said item).used received ++ more)
+  pub settled : item ≢ unfinished → (more : List ℕ) → Begins (received ++ more) item (drop (said item).used received ++ more)
+  pub alone : item ≢ unfinished → item ≢ no_end → (more : List ℕ) → Begins (take (said item).used received ++ more) item more
+
+-- a stream is these items, one behind the other, and then nothing whole
+pub data Runs : List ℕ → List Heard → List ℕ → Type 0 where
+  ends : (rest : List ℕ) → Begins rest unfinished rest → Runs rest [] rest
+  goes_on : (stream left rest : List ℕ) (item : Heard) (items : List Heard) → item ≢ unfinished → Begins stream item left → Runs left items rest → Runs stream (item ∷ items) rest
+
+-- all that some items use
+abbrev pub used_by : List Heard → ℕ
+used_by items = sum_by (λ item. (said item).used) items
+
+-- the one way in which a stream is items, which use all of it but what is left
+pub record Through (stream : List ℕ) : Type 0 where
+  pub items : List Heard
+  pub rest : List ℕ
+  pub runs : Runs stream items rest
+  pub only : (others : List Heard) (left : List ℕ) → Runs stream others left → (others ≡ items) × (left ≡ rest)
+  pub adds_up : used_by items + length rest ≡ length stream
+  pub in_order : rest ≡ drop (used_by items) stream
+
+abbrev pub EveryStreamIsItsItems : Type 0
+EveryStreamIsItsItems = (stream : List ℕ) → Through stream
