@@ -110,6 +110,17 @@ settled s item rest more (wrong payload high low r h k l) n = rw (append_assoc p
 settled s item rest more (endless bytes r h k) n = rw (append_assoc bytes r more) (endless bytes (r ++ more) h k)
 settled s item rest more (good payload high low r h k l) n = rw (append_assoc payload (35 ∷ high ∷ low ∷ r) more) (good payload high low (r ++ more) h k l)
 
+-- where an item ends
+rest_is : (s : List ℕ) (item : Heard) (rest : List ℕ) → Begins s item rest → rest ≡ drop (said item).used s
+rest_is s item rest nothing = refl
+rest_is s item rest (no_hash_yet bytes h k) = refl
+rest_is s item rest (no_digits_yet payload digits h k l) = refl
+rest_is s item rest (minus r) = refl
+rest_is s item rest (other b r h k) = refl
+rest_is s item rest (wrong payload high low r h k l) = sym (behind_frame payload r high low)
+rest_is s item rest (endless bytes r h k) = refl
+rest_is s item rest (good payload high low r h k l) = sym (behind_frame payload r high low)
+
 front_of_frame : (payload rest : List ℕ) (high low : ℕ) → take (length payload + 4) (enclosed payload (high ∷ low ∷ rest)) ≡ enclosed payload (high ∷ low ∷ [])
 front_of_frame payload rest high low =
     let e : length payload + 4 ≡ suc (length payload + 3) = omega arith in
@@ -130,7 +141,7 @@ pub hears : (s : List ℕ) → Hears s (heard s)
 hears s = let t = heard_at_head s in record {
   within = t.within;
   begins = t.begins;
-  only = λ other rest b. sym (heard_is s other rest b);
+  only = λ other rest b. let e = sym (heard_is s other rest b) in (e, rest_is s other rest b ∙ ap (λ i. drop (said i).used s) e);
   settled = λ n more. settled s (heard s) (drop (said (heard s)).used s) more t.begins n;
   alone = λ n m more. alone s (heard s) (drop (said (heard s)).used s) more t.begins n m;
 }

@@ -4,3 +4,4 @@ pub mod Spelling
 pub mod Written
 pub mod Hearings
 pub mod Reading
+pub mod Streaming

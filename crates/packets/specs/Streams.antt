@@ -30,7 +30,7 @@ pub data Begins : List ℕ → Heard → List ℕ → Type 0 where
 pub record Hears (received : List ℕ) (item : Heard) : Type 0 where
   pub within : (said item).used ≤ length received
   pub begins : Begins received item (drop (said item).used received)
-  pub only : (other : Heard) (rest : List ℕ) → Begins received other rest → other ≡ item
+  pub only : (other : Heard) (rest : List ℕ) → Begins received other rest → (other ≡ item) × (rest ≡ drop (said item).used received)
   pub settled : item ≢ unfinished → (more : List ℕ) → Begins (received ++ more) item (drop (said item).used received ++ more)
   pub alone : item ≢ unfinished → item ≢ no_end → (more : List ℕ) → Begins (take (said item).used received ++ more) item more
 

@@ -7,9 +7,11 @@ pub mod digits;
 mod framing;
 mod hearing;
 mod item;
+mod laws;
 mod split;
 
 pub use command::Command;
 pub use framing::{PAYLOAD, REPLY, frame};
 pub use hearing::hear;
 pub use item::Item;
+pub use laws::every_stream_is_its_items;
