@@ -5,3 +5,4 @@ pub mod Written
 pub mod Hearings
 pub mod Reading
 pub mod Streaming
+pub mod Parsing

@@ -6,3 +6,4 @@ pub mod Hearing
 pub mod Commands
 pub mod Asking
 pub mod Streams
+pub mod Forms

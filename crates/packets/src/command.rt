@@ -1,6 +1,7 @@
 ghost use Rattle.std.specs.Prelude.{◌≡◌};
 ghost use Rattle.packets.specs.Commands.{meant_by};
 ghost use Rattle.packets.specs.Asking.{asked};
+ghost use Rattle.packets.specs.Forms.{Parses};
 
 use crate::asking::{query, read, setting, write};
 use spaces::Refusal;
@@ -30,24 +31,32 @@ pub enum Command<'a> {
     Unknown,
 }
 
+// What a payload asks for, by its first character and then by its name.
+fn asked(payload: &[u8]) -> Result<Command<'_>, Refusal>
+    ensures { meant_by result ≡ asked payload.now }
+{
+    let Some((first, rest)) = payload.split_first() else {
+        return Ok(Command::Unknown);
+    };
+    match char::from(*first) {
+        '?' if rest.is_empty() => Ok(Command::Halted),
+        'm' => read(rest),
+        'M' => write(rest),
+        'g' if rest.is_empty() => Ok(Command::Registers),
+        'D' if rest.is_empty() => Ok(Command::Detach),
+        'H' => Ok(Command::Thread),
+        'q' => Ok(query(payload)),
+        'Q' => setting(payload),
+        _ => Ok(Command::Unknown),
+    }
+}
+
 impl<'a> Command<'a> {
-    // What a payload asks for, by its first character and then by its name.
+    // What a payload asks for, or why it is refused.
     pub fn parse(payload: &'a [u8]) -> Result<Command<'a>, Refusal>
-        ensures { meant_by result ≡ asked payload.now }
+        ensures is { meant_by result ≡ asked payload.now }
+        ensures in_words { Parses payload.now (meant_by result) }
     {
-        let Some((first, rest)) = payload.split_first() else {
-            return Ok(Command::Unknown);
-        };
-        match char::from(*first) {
-            '?' if rest.is_empty() => Ok(Command::Halted),
-            'm' => read(rest),
-            'M' => write(rest),
-            'g' if rest.is_empty() => Ok(Command::Registers),
-            'D' if rest.is_empty() => Ok(Command::Detach),
-            'H' => Ok(Command::Thread),
-            'q' => Ok(query(payload)),
-            'Q' => setting(payload),
-            _ => Ok(Command::Unknown),
-        }
+        asked(payload)
     }
 }

@@ -50,7 +50,7 @@ fn heard(received: &[u8]) -> Item<'_>
 // What is heard first in the bytes received.
 pub fn hear(received: &[u8]) -> Item<'_>
     ensures is { meant result ≡ heard received.now }
-    ensures law { Hears received.now (meant result) }
+    ensures in_words { Hears received.now (meant result) }
 {
     heard(received)
 }
