@@ -5,4 +5,6 @@ pub mod Written
 pub mod Hearings
 pub mod Reading
 pub mod Streaming
+pub mod Spans
+pub mod Fitting
 pub mod Parsing

@@ -1,4 +1,4 @@
-use Rattle.std.proofs.Common.{rules, ◌+◌, ◌-◌, ◌∷◌, length, arith}
+use Rattle.std.proofs.Common.{rules, ◌+◌, length, arith}
 use Rattle.packets.proofs.Written.{frames}
 use Rattle.packets.proofs.Hearings.{front_heard}
 use Rattle.packets.proofs.framing.frame.Goals as goal
