@@ -1,6 +1,7 @@
 #![tactic(auto)]
 
 mod paged;
+mod talk;
 mod tell;
 
 use extents::Table;
@@ -9,9 +10,11 @@ use overlays::Overlay;
 use paged::walk_aisle;
 use spaces::Space;
 use std::{fs, io};
+use talk::hear_talk;
 use tell::{list, tell_byte, tell_clear, tell_fill, tell_load, tell_set};
 
-// One task from beginning to end: dumps are loaded, listed, read, walked and patched, and refused where they are damaged.
+// One task from beginning to end: dumps are loaded, listed, read, walked and patched, and refused where they are damaged; what
+// GDB sends is heard.
 fn main(rt: HostRuntime) -> io::Result<()> {
     read_aisle(&rt)?;
     walk_aisle(&rt)?;
@@ -20,7 +23,8 @@ fn main(rt: HostRuntime) -> io::Result<()> {
     try_load(&rt, "header.lime", 64)?;
     try_load(&rt, "version2.lime", 64)?;
     try_load(&rt, "overlap.lime", 64)?;
-    try_load(&rt, "aisle.lime", 2)
+    try_load(&rt, "aisle.lime", 2)?;
+    hear_talk(&rt)
 }
 
 // The dump of the sample cart, as it is and under an overlay.
