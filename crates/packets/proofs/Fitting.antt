@@ -1,3 +1,4 @@
+use Prim.Native.Char.{code}
 use Rattle.std.proofs.Common.{◌≡◌, ◌≢◌, ℕ, ◌+◌, ◌*◌, ◌^◌, Bool, true, false, if◌then◌else◌, List, [], ◌∷◌, ◌++◌, length, take, drop, Some, None, Ok, Err, Option, Result, nat_lt, codes, ◌==◌, refl, sym, subst, ap, ◌⊎◌, inl, inr, arith}
 use Rattle.std.specs.Str.{bytes_eq}
 use Rattle.std.proofs.lemmas.Bool.Decides.{nat_tests}
@@ -17,7 +18,7 @@ use Rattle.packets.proofs.Spans.{span_found, found_span, bytes_found, found_byte
 abbrev pub Fits : List ℕ → Result Asked Refusal → Type 0
 Fits payload answer = MatchResult answer (Asks payload) (Wrong payload)
 
-reading_fits : (text : List ℕ) (w : Option (ℕ × ℕ)) → addresses text ≡ w → Fits (109 ∷ text) (reading w)
+reading_fits : (text : List ℕ) (w : Option (ℕ × ℕ)) → addresses text ≡ w → Fits (code "m" ∷ text) (reading w)
 reading_fits text None e = m_form text (λ first count s. let f = span_found text first count s in cc)
 reading_fits text (Some (first, count)) e = step (count == 0) (nat_lt (2 ^ 64) (first + count)) refl refl
   where
@@ -25,13 +26,13 @@ reading_fits text (Some (first, count)) e = step (count == 0) (nat_lt (2 ^ 64) (
     s = found_span text first count e
 
     step : (t u : Bool) → (count == 0) ≡ t → nat_lt (2 ^ 64) (first + count) ≡ u
-        → Fits (109 ∷ text) (if t then Err NoAddresses else if u then Err PastTheEnd else Ok (read first count))
+        → Fits (code "m" ∷ text) (if t then Err NoAddresses else if u then Err PastTheEnd else Ok (read first count))
     step true u p q = m_none text first (subst (Span text first) (grind (arith, nat_tests)) s)
     step false true p q = m_end text first count s (grind (arith, nat_tests)) (grind (arith, nat_tests))
     step false false p q = asks_m text first count s (grind (arith, nat_tests)) (grind (arith, nat_tests))
 
 -- bytes that are to be patched, by what the span and the digits are
-module _ (text front digits : List ℕ) (e : split_once 58 text ≡ Some (front, digits)) where
+module _ (text front digits : List ℕ) (e : split_once (code ":") text ≡ Some (front, digits)) where
   no_bytes : (addresses front ≡ None) ⊎ (all_digits digits ≡ false) → (first count : ℕ) (ds : List ℕ) → Bytes text first count ds → ⊥
   no_bytes o first count ds b =
       let t = bytes_found text first count ds b in
@@ -40,25 +41,25 @@ module _ (text front digits : List ℕ) (e : split_once 58 text ≡ Some (front,
       let d : digits ≡ ds = ap (λ p. p.1) same in
       elim o [ inl n ↦ cc | inr n ↦ cc ]
 
-  judged_fits : (first count : ℕ) → Bytes text first count digits → Fits (77 ∷ text) (judged first count (length digits == 2 * count) (write first digits))
+  judged_fits : (first count : ℕ) → Bytes text first count digits → Fits (code "M" ∷ text) (judged first count (length digits == 2 * count) (write first digits))
   judged_fits first count b = step (count == 0) (length digits == 2 * count) (nat_lt (2 ^ 64) (first + count)) refl refl refl
     where
       step : (t u v : Bool) → (count == 0) ≡ t → (length digits == 2 * count) ≡ u → nat_lt (2 ^ 64) (first + count) ≡ v
-          → Fits (77 ∷ text) (if t then Err NoAddresses else if u then (if v then Err PastTheEnd else Ok (write first digits)) else Err WrongDigits)
+          → Fits (code "M" ∷ text) (if t then Err NoAddresses else if u then (if v then Err PastTheEnd else Ok (write first digits)) else Err WrongDigits)
       step true u v p q r = M_none text first digits (subst (λ n. Bytes text first n digits) (grind (arith, nat_tests)) b)
       step false false v p q r = M_digits text first count digits b (grind (arith, nat_tests)) (grind (arith, nat_tests))
       step false true true p q r = M_end text first count digits b (grind (arith, nat_tests)) (grind (arith, nat_tests)) (grind (arith, nat_tests))
       step false true false p q r = asks_M text first count digits b (grind (arith, nat_tests)) (grind (arith, nat_tests)) (grind (arith, nat_tests))
 
-  writing_fits : (w : Option (ℕ × ℕ)) → addresses front ≡ w → Fits (77 ∷ text) (writing w digits)
+  writing_fits : (w : Option (ℕ × ℕ)) → addresses front ≡ w → Fits (code "M" ∷ text) (writing w digits)
   writing_fits None f = M_form text (no_bytes (inl f))
   writing_fits (Some (first, count)) f = step (all_digits digits) refl
     where
-      step : (t : Bool) → all_digits digits ≡ t → Fits (77 ∷ text) (if t then judged first count (length digits == 2 * count) (write first digits) else Err BadForm)
+      step : (t : Bool) → all_digits digits ≡ t → Fits (code "M" ∷ text) (if t then judged first count (length digits == 2 * count) (write first digits) else Err BadForm)
       step true q = judged_fits first count (found_bytes text front first count digits e f q)
       step false q = M_form text (no_bytes (inr q))
 
-written_fits : (text : List ℕ) (w : Option (List ℕ × List ℕ)) → split_once 58 text ≡ w → Fits (77 ∷ text) (written w)
+written_fits : (text : List ℕ) (w : Option (List ℕ × List ℕ)) → split_once (code ":") text ≡ w → Fits (code "M" ∷ text) (written w)
 written_fits text None e = M_form text (λ first count ds b. let t = (bytes_found text first count ds b).1 in cc)
 written_fits text (Some (front, digits)) e = writing_fits text front digits e (addresses front) refl
 
@@ -95,7 +96,7 @@ deepened_known text = chosen (length text == 2) (deep (spelled 0 text)) (Err Bad
 known : (payload : List ℕ) → Named payload → asked payload ≢ Ok unknown
 known payload named_question e = cc
 known payload (named_m text) e = reading_known (addresses text) e
-known payload (named_M text) e = written_known (split_once 58 text) e
+known payload (named_M text) e = written_known (split_once (code ":") text) e
 known payload named_g e = cc
 known payload named_D e = cc
 known payload (named_H text) e = cc
@@ -127,17 +128,17 @@ deepened_fits text = if_fits (codes "Qaisle.depth:" ++ text) (length text == 2) 
     step h None e = depth_form text (λ d t. let q = t.is in cc)
     step h (Some d) e = asks_depth text d (record { two = h; is = e })
 
-query_fits : (rest : List ℕ) → Fits (113 ∷ rest) (Ok (query (113 ∷ rest)))
-query_fits rest = if_asks (113 ∷ rest) (bytes_eq (113 ∷ rest) (codes "qaisle.fault")) last_fault _
-    (λ e. rw ((bytes_eq-Decides (113 ∷ rest) (codes "qaisle.fault")).0 e) asks_fault)
-    (λ e. if_asks (113 ∷ rest) (begins (codes "qSupported") (113 ∷ rest)) supported unknown
-    (λ f. subst (λ p. Asks p supported) (sym (begins_is (codes "qSupported") (113 ∷ rest) f)) (asks_supported (drop 10 (113 ∷ rest))))
-    (λ f. nameless (113 ∷ rest) (rw (e, f) refl)))
+query_fits : (rest : List ℕ) → Fits (code "q" ∷ rest) (Ok (query (code "q" ∷ rest)))
+query_fits rest = if_asks (code "q" ∷ rest) (bytes_eq (code "q" ∷ rest) (codes "qaisle.fault")) last_fault _
+    (λ e. rw ((bytes_eq-Decides (code "q" ∷ rest) (codes "qaisle.fault")).0 e) asks_fault)
+    (λ e. if_asks (code "q" ∷ rest) (begins (codes "qSupported") (code "q" ∷ rest)) supported unknown
+    (λ f. subst (λ p. Asks p supported) (sym (begins_is (codes "qSupported") (code "q" ∷ rest) f)) (asks_supported (drop 10 (code "q" ∷ rest))))
+    (λ f. nameless (code "q" ∷ rest) (rw (e, f) refl)))
 
-setting_fits : (rest : List ℕ) → Fits (81 ∷ rest) (setting (81 ∷ rest))
-setting_fits rest = if_fits (81 ∷ rest) (begins (codes "Qaisle.depth:") (81 ∷ rest)) (deepened (drop 13 (81 ∷ rest))) (Ok unknown)
-    (λ e. subst (λ p. Fits p (deepened (drop 13 (81 ∷ rest)))) (sym (begins_is (codes "Qaisle.depth:") (81 ∷ rest) e)) (deepened_fits (drop 13 (81 ∷ rest))))
-    (λ e. nameless (81 ∷ rest) (rw e refl))
+setting_fits : (rest : List ℕ) → Fits (code "Q" ∷ rest) (setting (code "Q" ∷ rest))
+setting_fits rest = if_fits (code "Q" ∷ rest) (begins (codes "Qaisle.depth:") (code "Q" ∷ rest)) (deepened (drop 13 (code "Q" ∷ rest))) (Ok unknown)
+    (λ e. subst (λ p. Fits p (deepened (drop 13 (code "Q" ∷ rest)))) (sym (begins_is (codes "Qaisle.depth:") (code "Q" ∷ rest) e)) (deepened_fits (drop 13 (code "Q" ∷ rest))))
+    (λ e. nameless (code "Q" ∷ rest) (rw e refl))
 
 alone_fits : (c : ℕ) (a : Asked) (rest : List ℕ) → Asks (c ∷ []) a → ((x : ℕ) (xs : List ℕ) → asked (c ∷ x ∷ xs) ≡ Ok unknown) → Fits (c ∷ rest) (Ok (alone a rest))
 alone_fits c a [] h k = h
@@ -146,14 +147,14 @@ alone_fits c a (x ∷ xs) h k = nameless (c ∷ x ∷ xs) (k x xs)
 pub fits : (payload : List ℕ) → Fits payload (asked payload)
 fits [] = nameless [] refl
 fits (c ∷ rest) =
-    if_fits (c ∷ rest) (c == 63) _ _ (λ e. rw (same c 63 e) (alone_fits 63 halted rest asks_why (λ x xs. refl)))
-    (λ n1. if_fits (c ∷ rest) (c == 109) _ _ (λ e. rw (same c 109 e) (reading_fits rest (addresses rest) refl))
-    (λ n2. if_fits (c ∷ rest) (c == 77) _ _ (λ e. rw (same c 77 e) (written_fits rest (split_once 58 rest) refl))
-    (λ n3. if_fits (c ∷ rest) (c == 103) _ _ (λ e. rw (same c 103 e) (alone_fits 103 registers rest asks_g (λ x xs. refl)))
-    (λ n4. if_fits (c ∷ rest) (c == 68) _ _ (λ e. rw (same c 68 e) (alone_fits 68 detach rest asks_D (λ x xs. refl)))
-    (λ n5. if_fits (c ∷ rest) (c == 72) _ _ (λ e. rw (same c 72 e) (asks_H rest))
-    (λ n6. if_fits (c ∷ rest) (c == 113) _ _ (λ e. rw (same c 113 e) (query_fits rest))
-    (λ n7. if_fits (c ∷ rest) (c == 81) _ _ (λ e. rw (same c 81 e) (setting_fits rest))
+    if_fits (c ∷ rest) (c == code "?") _ _ (λ e. rw (same c (code "?") e) (alone_fits (code "?") halted rest asks_why (λ x xs. refl)))
+    (λ n1. if_fits (c ∷ rest) (c == code "m") _ _ (λ e. rw (same c (code "m") e) (reading_fits rest (addresses rest) refl))
+    (λ n2. if_fits (c ∷ rest) (c == code "M") _ _ (λ e. rw (same c (code "M") e) (written_fits rest (split_once (code ":") rest) refl))
+    (λ n3. if_fits (c ∷ rest) (c == code "g") _ _ (λ e. rw (same c (code "g") e) (alone_fits (code "g") registers rest asks_g (λ x xs. refl)))
+    (λ n4. if_fits (c ∷ rest) (c == code "D") _ _ (λ e. rw (same c (code "D") e) (alone_fits (code "D") detach rest asks_D (λ x xs. refl)))
+    (λ n5. if_fits (c ∷ rest) (c == code "H") _ _ (λ e. rw (same c (code "H") e) (asks_H rest))
+    (λ n6. if_fits (c ∷ rest) (c == code "q") _ _ (λ e. rw (same c (code "q") e) (query_fits rest))
+    (λ n7. if_fits (c ∷ rest) (c == code "Q") _ _ (λ e. rw (same c (code "Q") e) (setting_fits rest))
     (λ n8. nameless (c ∷ rest) (rw (n1, n2, n3, n4, n5, n6, n7, n8) refl)))))))))
   where
     same : (a b : ℕ) → (a == b) ≡ true → a ≡ b

@@ -1,3 +1,4 @@
+use Prim.Native.Char.{code}
 use Rattle.std.proofs.Common.{◌≡◌, ◌≢◌, ℕ, ◌+◌, ◌/◌, ◌%◌, ◌≤◌, List, [], ◌∷◌, ◌++◌, length, take, drop, Some, None, Option, Bool, true, false, if◌then◌else◌, cond, zero, suc, ◌==◌, refl, sym, subst, ◌∙◌, ap, arith}
 use Rattle.std.proofs.lemmas.Bool.Decides.{nat_tests}
 use Rattle.std.proofs.lemmas.List.{append_assoc, append-nil, length-append, length-take, take-append-drop, take_at, drop_at}
@@ -6,27 +7,27 @@ use Rattle.packets.specs.Splits.{split_once, Lacks}
 use Rattle.packets.specs.Frames.{checksum, framed, has_frame, Frames}
 use Rattle.packets.specs.Items.{Heard, unfinished, resend, ignored, wrong_sum, no_end, packet, said}
 use Rattle.packets.specs.Hearing.{weighed, closed, opened, heard}
-use Rattle.packets.specs.Streams.{enclosed, Begins, nothing, no_hash_yet, no_digits_yet, minus, other, wrong, endless, good, Hears}
+use Rattle.packets.specs.Streams.{NoHash, enclosed, Begins, nothing, no_hash_yet, no_digits_yet, minus, other, wrong, endless, good, Hears}
 use Rattle.packets.proofs.Reading.{read_digits}
 use Rattle.packets.proofs.Splitting.{Split, splits, split_found, split_none, Behind, split_behind}
 
 -- What a stream begins with is what is heard.
 
-opened_at : (payload behind : List ℕ) → Lacks 35 payload → length payload ≤ 4096 → heard (enclosed payload behind) ≡ closed payload behind
-opened_at payload behind h k = grind (arith, nat_tests, split_found 35 payload behind h)
+opened_at : (payload behind : List ℕ) → NoHash payload → length payload ≤ 4096 → heard (enclosed payload behind) ≡ closed payload behind
+opened_at payload behind h k = grind (arith, nat_tests, split_found (code "#") payload behind h)
 
 heard_is : (s : List ℕ) (item : Heard) (rest : List ℕ) → Begins s item rest → heard s ≡ item
 heard_is s item rest nothing = refl
-heard_is s item rest (no_hash_yet bytes h k) = grind (arith, nat_tests, split_none 35 bytes h)
+heard_is s item rest (no_hash_yet bytes h k) = grind (arith, nat_tests, split_none (code "#") bytes h)
 heard_is s item rest (no_digits_yet payload [] h k l) = opened_at payload [] h k
 heard_is s item rest (no_digits_yet payload (c ∷ []) h k l) = opened_at payload (c ∷ []) h k
 heard_is s item rest (no_digits_yet payload (c ∷ d ∷ cs) h k l) = absurd (omega arith)
 heard_is s item rest (minus r) = refl
 heard_is s item rest (other b r h k) = grind (arith, nat_tests)
 heard_is s item rest (wrong payload high low r h k l) = opened_at payload (high ∷ low ∷ r) h k ∙ grind (arith, nat_tests)
-heard_is s item rest (endless bytes r h k) = step (split_once 35 (bytes ++ r)) (split_behind 35 bytes r h) refl
+heard_is s item rest (endless bytes r h k) = step (split_once (code "#") (bytes ++ r)) (split_behind (code "#") bytes r h) refl
   where
-    step : (w : Option (List ℕ × List ℕ)) → Behind bytes w → split_once 35 (bytes ++ r) ≡ w → heard (36 ∷ (bytes ++ r)) ≡ no_end
+    step : (w : Option (List ℕ × List ℕ)) → Behind bytes w → split_once (code "#") (bytes ++ r) ≡ w → heard (code "$" ∷ (bytes ++ r)) ≡ no_end
     step None b e = grind (arith, nat_tests, length-append bytes r)
     step (Some p) b e = grind (arith, nat_tests)
 heard_is s item rest (good payload high low r h k l) = opened_at payload (high ∷ low ∷ r) h k ∙ grind (arith, nat_tests)
@@ -38,14 +39,14 @@ pub record AtHead (s : List ℕ) (item : Heard) : Type 0 where
   pub begins : Begins s item (drop (said item).used s)
 
 long : (payload rest : List ℕ) (high low : ℕ) → length (enclosed payload (high ∷ low ∷ rest)) ≡ length payload + 4 + length rest
-long payload rest high low = grind (arith, length-append payload (35 ∷ high ∷ low ∷ rest))
+long payload rest high low = grind (arith, length-append payload (code "#" ∷ high ∷ low ∷ rest))
 
 behind_frame : (payload rest : List ℕ) (high low : ℕ) → drop (length payload + 4) (enclosed payload (high ∷ low ∷ rest)) ≡ rest
 behind_frame payload rest high low =
     let e : length payload + 4 ≡ suc (length payload + 3) = omega arith in
-    rw (e, sym (append_assoc payload (35 ∷ high ∷ low ∷ []) rest)) (drop_at (payload ++ (35 ∷ high ∷ low ∷ [])) rest (length payload + 3) (length-append payload (35 ∷ high ∷ low ∷ [])))
+    rw (e, sym (append_assoc payload (code "#" ∷ high ∷ low ∷ []) rest)) (drop_at (payload ++ (code "#" ∷ high ∷ low ∷ [])) rest (length payload + 3) (length-append payload (code "#" ∷ high ∷ low ∷ [])))
 
-closed_at_head : (payload behind : List ℕ) → Lacks 35 payload → length payload ≤ 4096 → AtHead (enclosed payload behind) (closed payload behind)
+closed_at_head : (payload behind : List ℕ) → NoHash payload → length payload ≤ 4096 → AtHead (enclosed payload behind) (closed payload behind)
 closed_at_head payload [] h k = record { within = omega arith; begins = no_digits_yet payload [] h k (omega arith) }
 closed_at_head payload (c ∷ []) h k = record { within = omega arith; begins = no_digits_yet payload (c ∷ []) h k (omega arith) }
 closed_at_head payload (high ∷ low ∷ rest) h k = step (spelled 0 (high ∷ low ∷ [])) refl
@@ -69,33 +70,33 @@ lacks_take mark zero bs h = tt
 lacks_take mark (suc n) [] h = tt
 lacks_take mark (suc n) (b ∷ bs) h = (h.0, lacks_take mark n bs h.1)
 
-no_end_at_head : (front rest : List ℕ) → Lacks 35 front → 4097 ≤ length front → AtHead (36 ∷ (front ++ rest)) no_end
+no_end_at_head : (front rest : List ℕ) → NoHash front → 4097 ≤ length front → AtHead (code "$" ∷ (front ++ rest)) no_end
 no_end_at_head front rest h k = record { within = omega arith; begins = cut 4097 k refl }
   where
-    cut : (n : ℕ) → n ≤ length front → n ≡ 4097 → Begins (36 ∷ (front ++ rest)) no_end (front ++ rest)
+    cut : (n : ℕ) → n ≤ length front → n ≡ 4097 → Begins (code "$" ∷ (front ++ rest)) no_end (front ++ rest)
     cut n l e =
-        let t = endless (take n front) (drop n front ++ rest) (lacks_take 35 n front h) (omega (arith, length-take n front)) in
-        subst (λ xs. Begins (36 ∷ xs) no_end xs) (sym (append_assoc (take n front) (drop n front) rest) ∙ ap (λ xs. xs ++ rest) (take-append-drop n front)) t
+        let t = endless (take n front) (drop n front ++ rest) (lacks_take (code "#") n front h) (omega (arith, length-take n front)) in
+        subst (λ xs. Begins (code "$" ∷ xs) no_end xs) (sym (append_assoc (take n front) (drop n front) rest) ∙ ap (λ xs. xs ++ rest) (take-append-drop n front)) t
 
-opened_at_head : (bytes : List ℕ) (w : Option (List ℕ × List ℕ)) → Split 35 bytes w → AtHead (36 ∷ bytes) (opened bytes w)
+opened_at_head : (bytes : List ℕ) (w : Option (List ℕ × List ℕ)) → Split (code "#") bytes w → AtHead (code "$" ∷ bytes) (opened bytes w)
 opened_at_head bytes None s = step (has_frame bytes) refl
   where
-    step : (t : Bool) → has_frame bytes ≡ t → AtHead (36 ∷ bytes) (if t then unfinished else no_end)
+    step : (t : Bool) → has_frame bytes ≡ t → AtHead (code "$" ∷ bytes) (if t then unfinished else no_end)
     step true q = record { within = omega arith; begins = no_hash_yet bytes s (grind (arith, nat_tests)) }
-    step false q = subst (λ xs. AtHead (36 ∷ xs) no_end) (append-nil bytes) (no_end_at_head bytes [] s (grind (arith, nat_tests)))
+    step false q = subst (λ xs. AtHead (code "$" ∷ xs) no_end) (append-nil bytes) (no_end_at_head bytes [] s (grind (arith, nat_tests)))
 opened_at_head bytes (Some p) s = step (has_frame p.0) refl
   where
-    step : (t : Bool) → has_frame p.0 ≡ t → AtHead (36 ∷ bytes) (if t then closed p.0 p.1 else no_end)
+    step : (t : Bool) → has_frame p.0 ≡ t → AtHead (code "$" ∷ bytes) (if t then closed p.0 p.1 else no_end)
     step true q = rw s.1 (closed_at_head p.0 p.1 s.0 (grind (arith, nat_tests)))
-    step false q = rw s.1 (no_end_at_head p.0 (35 ∷ p.1) s.0 (grind (arith, nat_tests)))
+    step false q = rw s.1 (no_end_at_head p.0 (code "#" ∷ p.1) s.0 (grind (arith, nat_tests)))
 
 heard_at_head : (s : List ℕ) → AtHead s (heard s)
 heard_at_head [] = record { within = omega arith; begins = nothing }
-heard_at_head (c ∷ bytes) = step (c == 36) (c == 45) refl refl
+heard_at_head (c ∷ bytes) = step (c == code "$") (c == code "-") refl refl
   where
-    step : (t u : Bool) → (c == 36) ≡ t → (c == 45) ≡ u → AtHead (c ∷ bytes) (if t then opened bytes (split_once 35 bytes) else if u then resend else ignored)
-    step true u e f = let is : c ≡ 36 = grind (arith, nat_tests) in rw is (opened_at_head bytes (split_once 35 bytes) (splits 35 bytes))
-    step false true e f = let is : c ≡ 45 = grind (arith, nat_tests) in rw is (record { within = omega arith; begins = minus bytes })
+    step : (t u : Bool) → (c == code "$") ≡ t → (c == code "-") ≡ u → AtHead (c ∷ bytes) (if t then opened bytes (split_once (code "#") bytes) else if u then resend else ignored)
+    step true u e f = let is : c ≡ code "$" = grind (arith, nat_tests) in rw is (opened_at_head bytes (split_once (code "#") bytes) (splits (code "#") bytes))
+    step false true e f = let is : c ≡ code "-" = grind (arith, nat_tests) in rw is (record { within = omega arith; begins = minus bytes })
     step false false e f = record { within = omega arith; begins = other c bytes (grind (arith, nat_tests)) (grind (arith, nat_tests)) }
 
 -- more bytes behind an item change nothing
@@ -105,9 +106,9 @@ settled s item rest more (no_hash_yet bytes h k) n = absurd (n refl)
 settled s item rest more (no_digits_yet payload digits h k l) n = absurd (n refl)
 settled s item rest more (minus r) n = minus (r ++ more)
 settled s item rest more (other b r h k) n = other b (r ++ more) h k
-settled s item rest more (wrong payload high low r h k l) n = rw (append_assoc payload (35 ∷ high ∷ low ∷ r) more) (wrong payload high low (r ++ more) h k l)
+settled s item rest more (wrong payload high low r h k l) n = rw (append_assoc payload (code "#" ∷ high ∷ low ∷ r) more) (wrong payload high low (r ++ more) h k l)
 settled s item rest more (endless bytes r h k) n = rw (append_assoc bytes r more) (endless bytes (r ++ more) h k)
-settled s item rest more (good payload high low r h k l) n = rw (append_assoc payload (35 ∷ high ∷ low ∷ r) more) (good payload high low (r ++ more) h k l)
+settled s item rest more (good payload high low r h k l) n = rw (append_assoc payload (code "#" ∷ high ∷ low ∷ r) more) (good payload high low (r ++ more) h k l)
 
 -- where an item ends
 rest_is : (s : List ℕ) (item : Heard) (rest : List ℕ) → Begins s item rest → rest ≡ drop (said item).used s
@@ -123,7 +124,7 @@ rest_is s item rest (good payload high low r h k l) = sym (behind_frame payload 
 front_of_frame : (payload rest : List ℕ) (high low : ℕ) → take (length payload + 4) (enclosed payload (high ∷ low ∷ rest)) ≡ enclosed payload (high ∷ low ∷ [])
 front_of_frame payload rest high low =
     let e : length payload + 4 ≡ suc (length payload + 3) = omega arith in
-    rw (e, sym (append_assoc payload (35 ∷ high ∷ low ∷ []) rest)) (ap (λ xs. 36 ∷ xs) (take_at (payload ++ (35 ∷ high ∷ low ∷ [])) rest (length payload + 3) (length-append payload (35 ∷ high ∷ low ∷ []))))
+    rw (e, sym (append_assoc payload (code "#" ∷ high ∷ low ∷ []) rest)) (ap (λ xs. code "$" ∷ xs) (take_at (payload ++ (code "#" ∷ high ∷ low ∷ [])) rest (length payload + 3) (length-append payload (code "#" ∷ high ∷ low ∷ []))))
 
 -- what comes behind an item changes nothing
 alone : (s : List ℕ) (item : Heard) (rest more : List ℕ) → Begins s item rest → item ≢ unfinished → item ≢ no_end → Begins (take (said item).used s ++ more) item more
@@ -132,9 +133,9 @@ alone s item rest more (no_hash_yet bytes h k) n m = absurd (n refl)
 alone s item rest more (no_digits_yet payload digits h k l) n m = absurd (n refl)
 alone s item rest more (minus r) n m = minus more
 alone s item rest more (other b r h k) n m = other b more h k
-alone s item rest more (wrong payload high low r h k l) n m = rw (front_of_frame payload r high low, append_assoc payload (35 ∷ high ∷ low ∷ []) more) (wrong payload high low more h k l)
+alone s item rest more (wrong payload high low r h k l) n m = rw (front_of_frame payload r high low, append_assoc payload (code "#" ∷ high ∷ low ∷ []) more) (wrong payload high low more h k l)
 alone s item rest more (endless bytes r h k) n m = absurd (m refl)
-alone s item rest more (good payload high low r h k l) n m = rw (front_of_frame payload r high low, append_assoc payload (35 ∷ high ∷ low ∷ []) more) (good payload high low more h k l)
+alone s item rest more (good payload high low r h k l) n m = rw (front_of_frame payload r high low, append_assoc payload (code "#" ∷ high ∷ low ∷ []) more) (good payload high low more h k l)
 
 pub hears : (s : List ℕ) → Hears s (heard s)
 hears s = let t = heard_at_head s in record {
@@ -146,15 +147,15 @@ hears s = let t = heard_at_head s in record {
 }
 
 -- a payload's frame is heard as the payload, whatever comes behind it
-pub framed_heard : (payload more : List ℕ) → Lacks 35 payload → length payload ≤ 4096 → Hears (framed payload ++ more) (packet payload)
+pub framed_heard : (payload more : List ℕ) → NoHash payload → length payload ≤ 4096 → Hears (framed payload ++ more) (packet payload)
 framed_heard payload more h k =
     let sum = checksum payload in
     let e = read_digits 2 sum (omega arith) in
-    let s : framed payload ++ more ≡ enclosed payload (digits 2 sum ++ more) = ap (λ xs. 36 ∷ xs) (append_assoc payload (35 ∷ digits 2 sum) more) in
+    let s : framed payload ++ more ≡ enclosed payload (digits 2 sum ++ more) = ap (λ xs. code "$" ∷ xs) (append_assoc payload (code "#" ∷ digits 2 sum) more) in
     let b = good payload (lower (sum / 16 % 16)) (lower (sum % 16)) more h k e in
     rw s (subst (Hears (enclosed payload (digits 2 sum ++ more))) (heard_is (enclosed payload (digits 2 sum ++ more)) (packet payload) more b) (hears (enclosed payload (digits 2 sum ++ more))))
 
-pub front_heard : (payload before after : List ℕ) (n : ℕ) → Frames payload before after (Some n) → Lacks 35 payload → (more : List ℕ) → Hears (take n after ++ more) (packet payload)
+pub front_heard : (payload before after : List ℕ) (n : ℕ) → Frames payload before after (Some n) → NoHash payload → (more : List ℕ) → Hears (take n after ++ more) (packet payload)
 front_heard payload before after n f h more = step (has_frame payload) refl f.how_many f.buffer
   where
     step : (t : Bool) → has_frame payload ≡ t → Some n ≡ cond t (Some (length payload + 4)) None → after ≡ cond t (framed payload ++ drop (length payload + 4) before) before
@@ -162,5 +163,5 @@ front_heard payload before after n f h more = step (has_frame payload) refl f.ho
     step false q e b = cc
     step true q e b =
         let k : n ≡ length payload + 4 = cc in
-        let l : length (framed payload) ≡ n = grind (arith, length-append payload (35 ∷ digits 2 (checksum payload))) in
+        let l : length (framed payload) ≡ n = grind (arith, length-append payload (code "#" ∷ digits 2 (checksum payload))) in
         rw (b, take_at (framed payload) (drop (length payload + 4) before) n l) (framed_heard payload more h (grind (arith, nat_tests)))

@@ -1,3 +1,4 @@
+use Prim.Native.Char.{code}
 use Rattle.std.proofs.Common.{◌≡◌, ℕ, ◌*◌, Bool, true, false, if◌then◌else◌, List, length, Some, None, Ok, Err, Option, Result, ◌==◌, refl, ap, arith}
 use Rattle.std.proofs.lemmas.Bool.Decides.{nat_tests}
 use Rattle.packets.specs.Digits.{spelled}
@@ -56,18 +57,18 @@ wrong_is payload r (m_form text n) = step (addresses text) refl
     step : (w : Option (ℕ × ℕ)) → addresses text ≡ w → reading w ≡ Err BadForm
     step None e = refl
     step (Some (first, count)) e = absurd (n first count (found_span text first count e))
-wrong_is payload r (M_form text n) = step (split_once 58 text) refl
+wrong_is payload r (M_form text n) = step (split_once (code ":") text) refl
   where
-    digit_step : (front digits : List ℕ) (first count : ℕ) → split_once 58 text ≡ Some (front, digits) → addresses front ≡ Some (first, count) → (t : Bool) → all_digits digits ≡ t
+    digit_step : (front digits : List ℕ) (first count : ℕ) → split_once (code ":") text ≡ Some (front, digits) → addresses front ≡ Some (first, count) → (t : Bool) → all_digits digits ≡ t
         → (if t then judged first count (length digits == 2 * count) (write first digits) else Err BadForm) ≡ Err BadForm
     digit_step front digits first count e f true q = absurd (n first count digits (found_bytes text front first count digits e f q))
     digit_step front digits first count e f false q = refl
 
-    span_step : (front digits : List ℕ) → split_once 58 text ≡ Some (front, digits) → (w : Option (ℕ × ℕ)) → addresses front ≡ w → writing w digits ≡ Err BadForm
+    span_step : (front digits : List ℕ) → split_once (code ":") text ≡ Some (front, digits) → (w : Option (ℕ × ℕ)) → addresses front ≡ w → writing w digits ≡ Err BadForm
     span_step front digits e None f = refl
     span_step front digits e (Some (first, count)) f = digit_step front digits first count e f (all_digits digits) refl
 
-    step : (w : Option (List ℕ × List ℕ)) → split_once 58 text ≡ w → written w ≡ Err BadForm
+    step : (w : Option (List ℕ × List ℕ)) → split_once (code ":") text ≡ w → written w ≡ Err BadForm
     step None e = refl
     step (Some (front, digits)) e = span_step front digits e (addresses front) refl
 wrong_is payload r (depth_form text n) = step (length text == 2) (spelled 0 text) refl refl

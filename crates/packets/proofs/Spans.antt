@@ -1,3 +1,4 @@
+use Prim.Native.Char.{code}
 use Rattle.std.proofs.Common.{◌≡◌, ◌≢◌, ℕ, ◌+◌, ◌*◌, Bool, true, false, ◌&&◌, List, [], ◌∷◌, ◌++◌, Some, None, Option, refl, subst, ◌∙◌, ap, arith}
 use Rattle.std.specs.List.{AllByRecursion}
 use Rattle.std.specs.Option.{option_and_then}
@@ -34,12 +35,12 @@ both_some (Some a) None first count e = cc
 both_some (Some a) (Some b) first count e = let q : ◌≡◌ {A = ℕ × ℕ} (a, b) (first, count) = cc in (ap Some (ap (λ p. p.0) q), ap Some (ap (λ p. p.1) q))
 
 pub span_found : (text : List ℕ) (first count : ℕ) → Span text first count → addresses text ≡ Some (first, count)
-span_found text first count s = rw (s.is, split_found 44 s.a s.l (number_lacks 44 s.a first refl s.first_is), s.first_is, s.count_is) refl
+span_found text first count s = rw (s.is, split_found (code ",") s.a s.l (number_lacks (code ",") s.a first refl s.first_is), s.first_is, s.count_is) refl
 
 pub found_span : (text : List ℕ) (first count : ℕ) → addresses text ≡ Some (first, count) → Span text first count
-found_span text first count e = step (split_once 44 text) (splits 44 text) e
+found_span text first count e = step (split_once (code ",") text) (splits (code ",") text) e
   where
-    step : (w : Option (List ℕ × List ℕ)) → Split 44 text w → option_and_then (λ p. both (number p.0) (number p.1)) w ≡ Some (first, count) → Span text first count
+    step : (w : Option (List ℕ × List ℕ)) → Split (code ",") text w → option_and_then (λ p. both (number p.0) (number p.1)) w ≡ Some (first, count) → Span text first count
     step None s e = cc
     step (Some p) s e = let t = both_some (number p.0) (number p.1) first count e in record { a = p.0; l = p.1; is = s.1; first_is = t.0; count_is = t.1 }
 
@@ -47,8 +48,8 @@ lacks_append : (mark : ℕ) (xs ys : List ℕ) → Lacks mark xs → Lacks mark 
 lacks_append mark [] ys h k = k
 lacks_append mark (x ∷ xs) ys h k = (h.0, lacks_append mark xs ys h.1 k)
 
-span_lacks : (text : List ℕ) (first count : ℕ) → Span text first count → Lacks 58 text
-span_lacks text first count s = rw s.is (lacks_append 58 s.a (44 ∷ s.l) (number_lacks 58 s.a first refl s.first_is) ((λ e. omega (arith, e)), number_lacks 58 s.l count refl s.count_is))
+span_lacks : (text : List ℕ) (first count : ℕ) → Span text first count → Lacks (code ":") text
+span_lacks text first count s = rw s.is (lacks_append (code ":") s.a (code "," ∷ s.l) (number_lacks (code ":") s.a first refl s.first_is) ((λ e. omega (arith, e)), number_lacks (code ":") s.l count refl s.count_is))
 
 -- so are the digits of bytes
 
@@ -61,14 +62,14 @@ all_digits_is (c ∷ cs) = step (is_some (digit c)) (all_digits_is cs)
     step true d = (λ h. (refl, d.0 h), λ h. d.1 h.1)
 
 pub bytes_found : (text : List ℕ) (first count : ℕ) (digits : List ℕ) → Bytes text first count digits
-    → (front : List ℕ) × (split_once 58 text ≡ Some (front, digits)) × (addresses front ≡ Some (first, count)) × (all_digits digits ≡ true)
-bytes_found text first count digits b = (b.front, rw b.is (split_found 58 b.front digits (span_lacks b.front first count b.span)), span_found b.front first count b.span, (all_digits_is digits).1 b.are_digits)
+    → (front : List ℕ) × (split_once (code ":") text ≡ Some (front, digits)) × (addresses front ≡ Some (first, count)) × (all_digits digits ≡ true)
+bytes_found text first count digits b = (b.front, rw b.is (split_found (code ":") b.front digits (span_lacks b.front first count b.span)), span_found b.front first count b.span, (all_digits_is digits).1 b.are_digits)
 
-pub found_bytes : (text front : List ℕ) (first count : ℕ) (digits : List ℕ) → split_once 58 text ≡ Some (front, digits) → addresses front ≡ Some (first, count) → all_digits digits ≡ true
+pub found_bytes : (text front : List ℕ) (first count : ℕ) (digits : List ℕ) → split_once (code ":") text ≡ Some (front, digits) → addresses front ≡ Some (first, count) → all_digits digits ≡ true
     → Bytes text first count digits
 found_bytes text front first count digits e f h = record {
   front = front;
-  is = (subst (Split 58 text) e (splits 58 text)).1;
+  is = (subst (Split (code ":") text) e (splits (code ":") text)).1;
   span = found_span front first count f;
   are_digits = (all_digits_is digits).0 h;
 }

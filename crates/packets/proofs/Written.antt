@@ -1,3 +1,4 @@
+use Prim.Native.Char.{code}
 use Rattle.std.proofs.Common.{◌≡◌, ℕ, ◌+◌, ◌-◌, ◌≤◌, List, [], ◌∷◌, ◌++◌, length, drop, Some, nat_le, true, refl, sym, ap, ◌∙◌, arith}
 use Rattle.std.specs.List.{slice_set}
 use Rattle.std.proofs.lemmas.Bool.Decides.{nat_tests}
@@ -9,7 +10,7 @@ use Rattle.packets.specs.Frames.{checksum, Frames}
 
 -- a payload behind the first byte, and three bytes behind that
 written : (reply payload tail : List ℕ) (n k m : ℕ) → length payload ≡ n → k ≡ 3 → length tail ≡ 3 → m ≡ n → n + 4 ≤ length reply
-    → put_mid (n + 1) k (put_mid 1 m (slice_set reply 0 36) payload) tail ≡ 36 ∷ (payload ++ (tail ++ drop (n + 4) reply))
+    → put_mid (n + 1) k (put_mid 1 m (slice_set reply 0 (code "$")) payload) tail ≡ code "$" ∷ (payload ++ (tail ++ drop (n + 4) reply))
 written [] payload tail n k m h i j l r = absurd (omega arith)
 written (b ∷ bs) payload tail n k m h i j l r = grind (arith, common_steps)
 
@@ -17,9 +18,9 @@ module _ (payload before : List ℕ) (room : length before ≡ 4100) (short : le
   abbrev n : ℕ
   n = length payload
 
-  pub frames : (front tail : List ℕ) → front ≡ payload → tail ≡ 35 ∷ digits 2 (checksum payload)
-      → Frames payload before (put_mid (n + 1) (n + 1 + 3 - (n + 1)) (put_mid 1 (n + 1 - 1) (slice_set before 0 36) front) tail) (Some (n + 1 + 3))
+  pub frames : (front tail : List ℕ) → front ≡ payload → tail ≡ code "#" ∷ digits 2 (checksum payload)
+      → Frames payload before (put_mid (n + 1) (n + 1 + 3 - (n + 1)) (put_mid 1 (n + 1 - 1) (slice_set before 0 (code "$")) front) tail) (Some (n + 1 + 3))
   frames front tail e f =
       let t : nat_le (length payload) 4096 ≡ true = grind (arith, nat_tests) in
       let w = written before payload tail n (n + 1 + 3 - (n + 1)) (n + 1 - 1) refl (omega arith) (rw f refl) (omega arith) (omega arith) in
-      rw e (record { how_many = rw t (ap Some (omega arith)); buffer = rw t (w ∙ rw f (ap (λ xs. 36 ∷ xs) (sym (append_assoc payload (35 ∷ digits 2 (checksum payload)) (drop (n + 4) before))))) })
+      rw e (record { how_many = rw t (ap Some (omega arith)); buffer = rw t (w ∙ rw f (ap (λ xs. code "$" ∷ xs) (sym (append_assoc payload (code "#" ∷ digits 2 (checksum payload)) (drop (n + 4) before))))) })

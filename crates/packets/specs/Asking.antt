@@ -4,6 +4,7 @@ use Rattle.std.specs.Str.{bytes_eq}
 use Rattle.std.specs.Option.{option_and_then}
 use Rattle.spaces.specs.declared.refusal.Refusal.{Refusal}
 use Rattle.spaces.specs.declared.refusal.Refusal.TheVariants.{BadForm, NoAddresses, WrongDigits, PastTheEnd}
+use Prim.Native.Char.{code}
 use Rattle.packets.specs.Digits.{digit, number, spelled}
 use Rattle.packets.specs.Splits.{split_once}
 use Rattle.packets.specs.Commands.{Asked, halted, read, write, registers, detach, thread, supported, depth, last_fault, unknown}
@@ -15,7 +16,7 @@ both (Some first) None = None
 both (Some first) (Some count) = Some (first, count)
 
 abbrev pub addresses : List ℕ → Option (ℕ × ℕ)
-addresses text = option_and_then (λ p. both (number p.0) (number p.1)) (split_once 44 text)
+addresses text = option_and_then (λ p. both (number p.0) (number p.1)) (split_once (code ",") text)
 
 -- the first that applies of no address, digits that are not two for each, and an end above 2 ^ 64 - 1
 abbrev pub judged : ℕ → ℕ → Bool → Asked → Result Asked Refusal
@@ -28,6 +29,9 @@ abbrev pub reading : Option (ℕ × ℕ) → Result Asked Refusal
 reading None = Err BadForm
 reading (Some (first, count)) = judged first count true (read first count)
 
+abbrev pub read_of : List ℕ → Result Asked Refusal
+read_of text = reading (addresses text)
+
 abbrev pub all_digits : List ℕ → Bool
 all_digits cs = list_all (λ c. is_some (digit c)) cs
 
@@ -38,6 +42,9 @@ writing (Some (first, count)) digits = if all_digits digits then judged first co
 abbrev pub written : Option (List ℕ × List ℕ) → Result Asked Refusal
 written None = Err BadForm
 written (Some (place, digits)) = writing (addresses place) digits
+
+abbrev pub write_of : List ℕ → Result Asked Refusal
+write_of text = written (split_once (code ":") text)
 
 -- a depth in two digits
 abbrev pub deep : Option ℕ → Result Asked Refusal
@@ -67,14 +74,14 @@ alone asked (c ∷ cs) = unknown
 -- what a payload asks for, by its first character and then by its name
 abbrev pub named : ℕ → List ℕ → List ℕ → Result Asked Refusal
 named c rest payload =
-    if c == 63 then Ok (alone halted rest)
-    else if c == 109 then reading (addresses rest)
-    else if c == 77 then written (split_once 58 rest)
-    else if c == 103 then Ok (alone registers rest)
-    else if c == 68 then Ok (alone detach rest)
-    else if c == 72 then Ok thread
-    else if c == 113 then Ok (query payload)
-    else if c == 81 then setting payload
+    if c == code "?" then Ok (alone halted rest)
+    else if c == code "m" then read_of rest
+    else if c == code "M" then write_of rest
+    else if c == code "g" then Ok (alone registers rest)
+    else if c == code "D" then Ok (alone detach rest)
+    else if c == code "H" then Ok thread
+    else if c == code "q" then Ok (query payload)
+    else if c == code "Q" then setting payload
     else Ok unknown
 
 abbrev pub asked : List ℕ → Result Asked Refusal

@@ -1,3 +1,4 @@
+use Prim.Native.Char.{code}
 use Rattle.std.specs.Prelude.{◌≡◌, ℕ, zero, suc, ◌+◌, ◌-◌, ◌*◌, ◌/◌, ◌%◌, min, ◌&&◌, Bool, if◌then◌else◌, List, [], ◌∷◌, ◌++◌, length, take, drop, Some, None, Option, nat_le, nat_lt}
 use Rattle.std.specs.List.{flat_map}
 use Rattle.std.specs.Option.{option_and_then}
@@ -10,14 +11,14 @@ among first last c = nat_le first c && nat_le c last
 
 abbrev pub digit : ℕ → Option ℕ
 digit c =
-    if among 48 57 c then Some (c - 48)
-    else if among 97 102 c then Some (c - 87)
-    else if among 65 70 c then Some (c - 55)
+    if among (code "0") (code "9") c then Some (c - code "0")
+    else if among (code "a") (code "f") c then Some (10 + (c - code "a"))
+    else if among (code "A") (code "F") c then Some (10 + (c - code "A"))
     else None
 
 -- the digit of a value below 16, in lower case
 abbrev pub lower : ℕ → ℕ
-lower n = if nat_lt n 10 then 48 + n else 87 + n
+lower n = if nat_lt n 10 then code "0" + n else code "a" + (n - 10)
 
 -- the number that digits spell, the highest first, where those before them spell n; none if one is no digit
 abbrev pub spelled : ℕ → List ℕ → Option ℕ

@@ -1,3 +1,4 @@
+use Prim.Native.Char.{code}
 use Rattle.std.specs.Prelude.{◌≡◌, ◌≢◌, ℕ, ◌+◌, ◌*◌, ◌^◌, ◌<◌, ◌≤◌, List, ◌∷◌, ◌++◌, length, codes, Some, Ok, Err, Result, IsSome}
 use Rattle.std.specs.List.{AllByRecursion}
 use Rattle.std.specs.Result.{MatchResult}
@@ -6,20 +7,20 @@ use Rattle.spaces.specs.declared.refusal.Refusal.TheVariants.{BadForm, NoAddress
 use Rattle.packets.specs.Digits.{digit, number, spelled}
 use Rattle.packets.specs.Commands.{Asked, halted, read, write, registers, detach, thread, supported, depth, last_fault, unknown}
 
--- Payloads, in the protocol's words: `m` is 109, `M` 77, `H` 72, a comma 44, a colon 58.
+-- Payloads, in the protocol's words.
 
 -- A,L
 pub record Span (text : List ℕ) (first count : ℕ) : Type 0 where
   pub a : List ℕ
   pub l : List ℕ
-  pub is : text ≡ a ++ (44 ∷ l)
+  pub is : text ≡ a ++ (code "," ∷ l)
   pub first_is : number a ≡ Some first
   pub count_is : number l ≡ Some count
 
 -- A,L: and digits
 pub record Bytes (text : List ℕ) (first count : ℕ) (digits : List ℕ) : Type 0 where
   pub front : List ℕ
-  pub is : text ≡ front ++ (58 ∷ digits)
+  pub is : text ≡ front ++ (code ":" ∷ digits)
   pub span : Span front first count
   pub are_digits : AllByRecursion (λ c. IsSome (digit c)) digits
 
@@ -31,11 +32,11 @@ pub record Depth (text : List ℕ) (d : ℕ) : Type 0 where
 -- the payloads that have a name
 pub data Named : List ℕ → Type 0 where
   named_question : Named (codes "?")
-  named_m : (text : List ℕ) → Named (109 ∷ text)
-  named_M : (text : List ℕ) → Named (77 ∷ text)
+  named_m : (text : List ℕ) → Named (code "m" ∷ text)
+  named_M : (text : List ℕ) → Named (code "M" ∷ text)
   named_g : Named (codes "g")
   named_D : Named (codes "D")
-  named_H : (text : List ℕ) → Named (72 ∷ text)
+  named_H : (text : List ℕ) → Named (code "H" ∷ text)
   named_supported : (text : List ℕ) → Named (codes "qSupported" ++ text)
   named_depth : (text : List ℕ) → Named (codes "Qaisle.depth:" ++ text)
   named_fault : Named (codes "qaisle.fault")
@@ -43,12 +44,12 @@ pub data Named : List ℕ → Type 0 where
 -- what a payload asks for
 pub data Asks : List ℕ → Asked → Type 0 where
   asks_why : Asks (codes "?") halted
-  asks_m : (text : List ℕ) (first count : ℕ) → Span text first count → 0 < count → first + count ≤ 2 ^ 64 → Asks (109 ∷ text) (read first count)
+  asks_m : (text : List ℕ) (first count : ℕ) → Span text first count → 0 < count → first + count ≤ 2 ^ 64 → Asks (code "m" ∷ text) (read first count)
   asks_M : (text : List ℕ) (first count : ℕ) (digits : List ℕ) → Bytes text first count digits → 0 < count → length digits ≡ 2 * count → first + count ≤ 2 ^ 64
-      → Asks (77 ∷ text) (write first digits)
+      → Asks (code "M" ∷ text) (write first digits)
   asks_g : Asks (codes "g") registers
   asks_D : Asks (codes "D") detach
-  asks_H : (text : List ℕ) → Asks (72 ∷ text) thread
+  asks_H : (text : List ℕ) → Asks (code "H" ∷ text) thread
   asks_supported : (text : List ℕ) → Asks (codes "qSupported" ++ text) supported
   asks_depth : (text : List ℕ) (d : ℕ) → Depth text d → Asks (codes "Qaisle.depth:" ++ text) (depth d)
   asks_fault : Asks (codes "qaisle.fault") last_fault
@@ -56,15 +57,15 @@ pub data Asks : List ℕ → Asked → Type 0 where
 
 -- Why a payload is refused. Each reason leaves out those with a smaller number, so that a payload has one at most.
 pub data Wrong : List ℕ → Refusal → Type 0 where
-  m_form : (text : List ℕ) → ((first count : ℕ) → Span text first count → ⊥) → Wrong (109 ∷ text) BadForm
-  M_form : (text : List ℕ) → ((first count : ℕ) (digits : List ℕ) → Bytes text first count digits → ⊥) → Wrong (77 ∷ text) BadForm
+  m_form : (text : List ℕ) → ((first count : ℕ) → Span text first count → ⊥) → Wrong (code "m" ∷ text) BadForm
+  M_form : (text : List ℕ) → ((first count : ℕ) (digits : List ℕ) → Bytes text first count digits → ⊥) → Wrong (code "M" ∷ text) BadForm
   depth_form : (text : List ℕ) → ((d : ℕ) → Depth text d → ⊥) → Wrong (codes "Qaisle.depth:" ++ text) BadForm
-  m_none : (text : List ℕ) (first : ℕ) → Span text first 0 → Wrong (109 ∷ text) NoAddresses
-  M_none : (text : List ℕ) (first : ℕ) (digits : List ℕ) → Bytes text first 0 digits → Wrong (77 ∷ text) NoAddresses
-  M_digits : (text : List ℕ) (first count : ℕ) (digits : List ℕ) → Bytes text first count digits → 0 < count → length digits ≢ 2 * count → Wrong (77 ∷ text) WrongDigits
-  m_end : (text : List ℕ) (first count : ℕ) → Span text first count → 0 < count → 2 ^ 64 < first + count → Wrong (109 ∷ text) PastTheEnd
+  m_none : (text : List ℕ) (first : ℕ) → Span text first 0 → Wrong (code "m" ∷ text) NoAddresses
+  M_none : (text : List ℕ) (first : ℕ) (digits : List ℕ) → Bytes text first 0 digits → Wrong (code "M" ∷ text) NoAddresses
+  M_digits : (text : List ℕ) (first count : ℕ) (digits : List ℕ) → Bytes text first count digits → 0 < count → length digits ≢ 2 * count → Wrong (code "M" ∷ text) WrongDigits
+  m_end : (text : List ℕ) (first count : ℕ) → Span text first count → 0 < count → 2 ^ 64 < first + count → Wrong (code "m" ∷ text) PastTheEnd
   M_end : (text : List ℕ) (first count : ℕ) (digits : List ℕ) → Bytes text first count digits → 0 < count → length digits ≡ 2 * count → 2 ^ 64 < first + count
-      → Wrong (77 ∷ text) PastTheEnd
+      → Wrong (code "M" ∷ text) PastTheEnd
 
 -- what the answer says of a payload, and that it is the only one that fits
 pub record Parses (payload : List ℕ) (answer : Result Asked Refusal) : Type 0 where

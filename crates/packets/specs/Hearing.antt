@@ -1,4 +1,5 @@
 use Rattle.std.specs.Prelude.{ℕ, ◌+◌, if◌then◌else◌, List, [], ◌∷◌, length, Some, None, Option, ◌==◌}
+use Prim.Native.Char.{code}
 use Rattle.packets.specs.Digits.{spelled}
 use Rattle.packets.specs.Splits.{split_once}
 use Rattle.packets.specs.Frames.{checksum, has_frame}
@@ -20,7 +21,10 @@ abbrev pub opened : List ℕ → Option (List ℕ × List ℕ) → Heard
 opened bytes None = if has_frame bytes then unfinished else no_end
 opened bytes (Some (payload, rest)) = if has_frame payload then closed payload rest else no_end
 
+abbrev pub begun : List ℕ → Heard
+begun bytes = opened bytes (split_once (code "#") bytes)
+
 -- what is heard first in the bytes received
 abbrev pub heard : List ℕ → Heard
 heard [] = unfinished
-heard (c ∷ bytes) = if c == 36 then opened bytes (split_once 35 bytes) else if c == 45 then resend else ignored
+heard (c ∷ bytes) = if c == code "$" then begun bytes else if c == code "-" then resend else ignored

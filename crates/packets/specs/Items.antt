@@ -1,3 +1,4 @@
+use Prim.Native.Char.{code}
 use Rattle.std.specs.Prelude.{ℕ, ◌+◌, List, length, Some, None, Option}
 use Rattle.spaces.specs.declared.refusal.Refusal.{Refusal}
 use Rattle.spaces.specs.declared.refusal.Refusal.TheVariants.{WrongSum, NoEnd}
@@ -32,6 +33,6 @@ abbrev pub said : Heard → Said
 said unfinished = record { used = 0; refusal = None; due = None }
 said resend = record { used = 1; refusal = None; due = None }
 said ignored = record { used = 1; refusal = None; due = None }
-said (wrong_sum used) = record { used = used; refusal = Some WrongSum; due = Some 45 }
+said (wrong_sum used) = record { used = used; refusal = Some WrongSum; due = Some (code "-") }
 said no_end = record { used = 1; refusal = Some NoEnd; due = None }
-said (packet payload) = record { used = length payload + 4; refusal = None; due = Some 43 }
+said (packet payload) = record { used = length payload + 4; refusal = None; due = Some (code "+") }

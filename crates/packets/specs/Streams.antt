@@ -1,3 +1,4 @@
+use Prim.Native.Char.{code}
 use Rattle.std.specs.Prelude.{◌≡◌, ◌≢◌, ℕ, ◌+◌, ◌<◌, ◌≤◌, List, [], ◌∷◌, ◌++◌, length, take, drop, Some}
 use Rattle.std.specs.List.{sum_by}
 use Rattle.packets.specs.Digits.{spelled}
@@ -5,24 +6,27 @@ use Rattle.packets.specs.Splits.{Lacks}
 use Rattle.packets.specs.Frames.{checksum}
 use Rattle.packets.specs.Items.{Heard, unfinished, resend, ignored, wrong_sum, no_end, packet, said}
 
--- Streams, in the protocol's words: `$` is 36, `#` 35, `-` 45.
+-- Streams, in the protocol's words.
+
+abbrev pub NoHash : List ℕ → Type 0
+NoHash bytes = Lacks (code "#") bytes
 
 -- a frame, by its payload and all that comes behind its `#`
 abbrev pub enclosed : List ℕ → List ℕ → List ℕ
-enclosed payload behind = 36 ∷ (payload ++ (35 ∷ behind))
+enclosed payload behind = code "$" ∷ (payload ++ (code "#" ∷ behind))
 
 -- a stream begins with an item, and this is what comes behind it
 pub data Begins : List ℕ → Heard → List ℕ → Type 0 where
   nothing : Begins [] unfinished []
-  no_hash_yet : (bytes : List ℕ) → Lacks 35 bytes → length bytes ≤ 4096 → Begins (36 ∷ bytes) unfinished (36 ∷ bytes)
-  no_digits_yet : (payload digits : List ℕ) → Lacks 35 payload → length payload ≤ 4096 → length digits < 2
+  no_hash_yet : (bytes : List ℕ) → NoHash bytes → length bytes ≤ 4096 → Begins (code "$" ∷ bytes) unfinished (code "$" ∷ bytes)
+  no_digits_yet : (payload digits : List ℕ) → NoHash payload → length payload ≤ 4096 → length digits < 2
       → Begins (enclosed payload digits) unfinished (enclosed payload digits)
-  minus : (rest : List ℕ) → Begins (45 ∷ rest) resend rest
-  other : (b : ℕ) (rest : List ℕ) → b ≢ 36 → b ≢ 45 → Begins (b ∷ rest) ignored rest
-  wrong : (payload : List ℕ) (high low : ℕ) (rest : List ℕ) → Lacks 35 payload → length payload ≤ 4096 → spelled 0 (high ∷ low ∷ []) ≢ Some (checksum payload)
+  minus : (rest : List ℕ) → Begins (code "-" ∷ rest) resend rest
+  other : (b : ℕ) (rest : List ℕ) → b ≢ code "$" → b ≢ code "-" → Begins (b ∷ rest) ignored rest
+  wrong : (payload : List ℕ) (high low : ℕ) (rest : List ℕ) → NoHash payload → length payload ≤ 4096 → spelled 0 (high ∷ low ∷ []) ≢ Some (checksum payload)
       → Begins (enclosed payload (high ∷ low ∷ rest)) (wrong_sum (length payload + 4)) rest
-  endless : (bytes rest : List ℕ) → Lacks 35 bytes → length bytes ≡ 4097 → Begins (36 ∷ (bytes ++ rest)) no_end (bytes ++ rest)
-  good : (payload : List ℕ) (high low : ℕ) (rest : List ℕ) → Lacks 35 payload → length payload ≤ 4096 → spelled 0 (high ∷ low ∷ []) ≡ Some (checksum payload)
+  endless : (bytes rest : List ℕ) → NoHash bytes → length bytes ≡ 4097 → Begins (code "$" ∷ (bytes ++ rest)) no_end (bytes ++ rest)
+  good : (payload : List ℕ) (high low : ℕ) (rest : List ℕ) → NoHash payload → length payload ≤ 4096 → spelled 0 (high ∷ low ∷ []) ≡ Some (checksum payload)
       → Begins (enclosed payload (high ∷ low ∷ rest)) (packet payload) rest
 
 -- What hearing says of the bytes received: they begin with the item, and with no other; it uses at most these bytes, and what

@@ -4,8 +4,7 @@ ghost use Rattle.std.specs.Prelude.{◌≡◌, ◌+◌, None, Ok};
 ghost use Rattle.std.specs.Option.{option_map};
 ghost use Rattle.spaces.specs.Edits.{ending, outcome};
 ghost use Rattle.packets.specs.Commands.{meant, meant_by};
-ghost use Rattle.packets.specs.Splits.{split_once};
-ghost use Rattle.packets.specs.Asking.{addresses, reading, written, all_digits, query, setting};
+ghost use Rattle.packets.specs.Asking.{addresses, read_of, write_of, all_digits, query, setting};
 
 use crate::command::Command;
 use crate::digits::{byte, number};
@@ -38,7 +37,7 @@ fn within(first: u64, count: u64) -> Result<(), Refusal>
 
 // `A,L`
 pub(crate) fn read(text: &[u8]) -> Result<Command<'_>, Refusal>
-    ensures { meant_by result ≡ reading (addresses text.now) }
+    ensures { meant_by result ≡ read_of text.now }
 {
     let (first, count) = addresses(text).ok_or(Refusal::BadForm)?;
     if count == 0 {
@@ -50,7 +49,7 @@ pub(crate) fn read(text: &[u8]) -> Result<Command<'_>, Refusal>
 
 // `A,L:` and digits
 pub(crate) fn write(text: &[u8]) -> Result<Command<'_>, Refusal>
-    ensures { meant_by result ≡ written (split_once 58 text.now) }
+    ensures { meant_by result ≡ write_of text.now }
 {
     let (place, digits) = split_once(text, b':').ok_or(Refusal::BadForm)?;
     let (first, count) = addresses(place).ok_or(Refusal::BadForm)?;

@@ -1,8 +1,7 @@
 ghost use Rattle.std.specs.Prelude.{◌≡◌, ℕ, List, ◌++◌, take, IfSome};
-ghost use Rattle.packets.specs.Splits.{Lacks};
 ghost use Rattle.packets.specs.Frames.{checksum, Frames};
 ghost use Rattle.packets.specs.Items.{packet};
-ghost use Rattle.packets.specs.Streams.{Hears};
+ghost use Rattle.packets.specs.Streams.{NoHash, Hears};
 
 use crate::digits;
 
@@ -21,7 +20,7 @@ pub(crate) fn checksum(payload: &[u8]) -> u8
 // Writes a payload's frame: how many bytes it has, or none where the payload is too long.
 pub fn frame(payload: &[u8], reply: &mut [u8; REPLY]) -> Option<usize>
     ensures is { Frames payload.now reply.old reply.new result }
-    ensures heard_back { IfSome result (λ n. Lacks 35 payload.now → (more : List ℕ) → Hears (take n reply.new ++ more) (packet payload.now)) }
+    ensures heard_back { IfSome result (λ n. NoHash payload.now → (more : List ℕ) → Hears (take n reply.new ++ more) (packet payload.now)) }
 {
     if payload.len() > PAYLOAD {
         return None;
