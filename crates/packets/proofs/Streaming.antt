@@ -9,13 +9,13 @@ use Rattle.packets.proofs.Hearings.{hears}
 -- whatever is whole uses something
 uses : (s : List ℕ) (item : Heard) (rest : List ℕ) → Begins s item rest → item ≢ unfinished → 0 < (said item).used
 uses s item rest nothing n = absurd (n refl)
-uses s item rest (no_hash_yet bytes h k) n = absurd (n refl)
-uses s item rest (no_digits_yet payload digits h k l) n = absurd (n refl)
+uses s item rest (no_hash_yet bytes p) n = absurd (n refl)
+uses s item rest (no_digits_yet payload digits p l) n = absurd (n refl)
 uses s item rest (minus r) n = omega arith
 uses s item rest (other b r h k) n = omega arith
-uses s item rest (wrong payload high low r h k l) n = omega arith
+uses s item rest (wrong payload high low r p l) n = omega arith
 uses s item rest (endless bytes r h k) n = omega arith
-uses s item rest (good payload high low r h k l) n = omega arith
+uses s item rest (good payload high low r p l) n = omega arith
 
 -- a stream that begins with nothing whole
 at_end : (s : List ℕ) → Hears s unfinished → Through s

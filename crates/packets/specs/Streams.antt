@@ -11,6 +11,10 @@ use Rattle.packets.specs.Items.{Heard, unfinished, resend, ignored, wrong_sum, n
 abbrev pub NoHash : List ℕ → Type 0
 NoHash bytes = Lacks (code "#") bytes
 
+-- what a frame can enclose
+abbrev pub IsPayload : List ℕ → Type 0
+IsPayload bytes = NoHash bytes × (length bytes ≤ 4096)
+
 -- a frame, by its payload and all that comes behind its `#`
 abbrev pub enclosed : List ℕ → List ℕ → List ℕ
 enclosed payload behind = code "$" ∷ (payload ++ (code "#" ∷ behind))
@@ -18,15 +22,14 @@ enclosed payload behind = code "$" ∷ (payload ++ (code "#" ∷ behind))
 -- a stream begins with an item, and this is what comes behind it
 pub data Begins : List ℕ → Heard → List ℕ → Type 0 where
   nothing : Begins [] unfinished []
-  no_hash_yet : (bytes : List ℕ) → NoHash bytes → length bytes ≤ 4096 → Begins (code "$" ∷ bytes) unfinished (code "$" ∷ bytes)
-  no_digits_yet : (payload digits : List ℕ) → NoHash payload → length payload ≤ 4096 → length digits < 2
-      → Begins (enclosed payload digits) unfinished (enclosed payload digits)
+  no_hash_yet : (bytes : List ℕ) → IsPayload bytes → Begins (code "$" ∷ bytes) unfinished (code "$" ∷ bytes)
+  no_digits_yet : (payload digits : List ℕ) → IsPayload payload → length digits < 2 → Begins (enclosed payload digits) unfinished (enclosed payload digits)
   minus : (rest : List ℕ) → Begins (code "-" ∷ rest) resend rest
   other : (b : ℕ) (rest : List ℕ) → b ≢ code "$" → b ≢ code "-" → Begins (b ∷ rest) ignored rest
-  wrong : (payload : List ℕ) (high low : ℕ) (rest : List ℕ) → NoHash payload → length payload ≤ 4096 → spelled 0 (high ∷ low ∷ []) ≢ Some (checksum payload)
+  wrong : (payload : List ℕ) (high low : ℕ) (rest : List ℕ) → IsPayload payload → spelled 0 (high ∷ low ∷ []) ≢ Some (checksum payload)
       → Begins (enclosed payload (high ∷ low ∷ rest)) (wrong_sum (length payload + 4)) rest
   endless : (bytes rest : List ℕ) → NoHash bytes → length bytes ≡ 4097 → Begins (code "$" ∷ (bytes ++ rest)) no_end (bytes ++ rest)
-  good : (payload : List ℕ) (high low : ℕ) (rest : List ℕ) → NoHash payload → length payload ≤ 4096 → spelled 0 (high ∷ low ∷ []) ≡ Some (checksum payload)
+  good : (payload : List ℕ) (high low : ℕ) (rest : List ℕ) → IsPayload payload → spelled 0 (high ∷ low ∷ []) ≡ Some (checksum payload)
       → Begins (enclosed payload (high ∷ low ∷ rest)) (packet payload) rest
 
 -- What hearing says of the bytes received: they begin with the item, and with no other; it uses at most these bytes, and what
