@@ -3,7 +3,7 @@ use packets::{Item, REPLY, frame, hear};
 // Frames as GDB's logs and manual have them, and some whose sums are the least and the greatest.
 #[test]
 fn payloads_are_framed(rt: HostRuntime) {
-    let cases: [(&[u8], &[u8]); 17] = [
+    let cases: [(&[u8], &[u8]); 18] = [
         (b"", b"$#00"),
         (b"?", b"$?#3f"),
         (b"g", b"$g#67"),
@@ -17,56 +17,38 @@ fn payloads_are_framed(rt: HostRuntime) {
         (b"QStartNoAckMode", b"$QStartNoAckMode#b0"),
         (b"qfThreadInfo", b"$qfThreadInfo#bb"),
         (b"a$b", b"$a$b#e7"),
+        (b"a#b", b"$a#b#e6"),
         (b"\x00", b"$\x00#00"),
         (b"\x0f", b"$\x0f#0f"),
         (b"\xff", b"$\xff#ff"),
         (b"\x80\x80", b"$\x80\x80#00"),
     ];
     for (payload, framed) in cases {
-        let mut reply = [b'.'; REPLY];
-        assert_eq!(rt;
-            frame(payload, &mut reply),
-            Some(framed.len()),
-            "{payload:?}"
-        );
-        assert!(rt; reply.starts_with(framed), "{payload:?}");
-        let mut rest = reply.iter().skip(framed.len());
-        assert!(rt; rest.all(|b| *b == b'.'), "{payload:?}");
-        assert_eq!(rt; hear(&reply), Item::Packet { payload }, "{payload:?}");
-        // no part of it is heard before it is there
-        for cut in 0..framed.len() {
-            assert_eq!(rt;
-                hear(&framed[..cut]),
-                Item::Unfinished,
-                "{payload:?} at {cut}"
-            );
+        let mut expected = [b'.'; REPLY];
+        for (slot, b) in expected.iter_mut().zip(framed) {
+            *slot = *b;
         }
+        let mut reply = [b'.'; REPLY];
+        let length = frame(payload, &mut reply);
+        assert_eq!(rt; (length, reply), (Some(framed.len()), expected));
     }
-}
-
-// A payload with a `#` is framed as any, and heard as another that ends there.
-#[test]
-fn hash_in_a_payload(rt: HostRuntime) {
-    let mut reply = [b'.'; REPLY];
-    assert_eq!(rt; frame(b"a#b", &mut reply), Some(7));
-    assert!(rt; reply.starts_with(b"$a#b#e6."));
-    assert_eq!(rt; hear(&reply), Item::WrongSum { used: 5 });
 }
 
 #[test]
 fn long_payloads(rt: HostRuntime) {
-    // a b and 4,094 letters a have the sum a0, and each further a adds 61
-    let mut payload = [b'a'; 4_097];
-    payload[0] = b'b';
+    let mut letters = [b'a'; 4_097];
+    letters[0] = b'b';
     let mut reply = [b'.'; REPLY];
-    assert_eq!(rt; frame(&payload, &mut reply), None);
-    assert_eq!(rt; reply, [b'.'; REPLY]);
-    for (length, end) in [(4_095, b"#a0."), (4_096, b"a#01")] {
-        let payload = &payload[..length];
-        assert_eq!(rt; frame(payload, &mut reply), Some(length + 4));
-        assert_eq!(rt; reply[0], b'$');
-        assert_eq!(rt; &reply[1..length + 1], payload);
-        assert_eq!(rt; &reply[4_096..], end.as_slice());
+    let length = frame(&letters, &mut reply);
+    assert_eq!(rt; (length, reply), (None, [b'.'; REPLY]));
+    // a b and 4,094 letters a have the sum a0, and one a more adds 61
+    for (count, end) in [(4_095, b"#a0."), (4_096, b"a#01")] {
+        let payload = &letters[..count];
+        let mut expected = [b'a'; REPLY];
+        expected[..2].copy_from_slice(b"$b");
+        expected[4_096..].copy_from_slice(end);
+        let length = frame(payload, &mut reply);
+        assert_eq!(rt; (length, reply), (Some(count + 4), expected));
         assert_eq!(rt; hear(&reply), Item::Packet { payload });
     }
 }

@@ -5,7 +5,7 @@ use std::process::Abort;
 fn behind<'a>(rt: &impl Abort, stream: &'a [u8], item: Item) -> &'a [u8] {
     let heard = hear(stream);
     assert_eq!(rt; heard, item, "{stream:?}");
-    assert!(rt; heard.used() <= stream.len(), "{stream:?}");
+    assert!(rt; heard.used() <= stream.len());
     &stream[heard.used()..]
 }
 
