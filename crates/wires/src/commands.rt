@@ -63,43 +63,64 @@ fn payloads_ask_for_commands(rt: HostRuntime) {
 fn other_payloads(rt: HostRuntime) {
     // names that are near the known ones, and names of GDB's that are not known here; the first is empty
     let unknown = [
-        "|?x|??|gg|g |D;1|G|d|h|X0,1:|z0,0,1|s|c|k|!|R00|vMustReplyEmpty|vCont?",
-        "q|qC|qSupporte|qsupported|qaisle.faul|qaisle.faults|qaisle.depth:00",
-        "Q|QStartNoAckMode|QSupported|Qaisle.depth|Qaisle.depth;00|Qaisle.fault",
+        "|?x|??|gg|g |D;1|G|d|h|X0,1:|z0,0,1|s|c",
+        "k|!|R00|vMustReplyEmpty|vCont?",
+        "q|qC|qSupporte|qsupported|qaisle.faul",
+        "qaisle.faults|qaisle.depth:00",
+        "Q|QStartNoAckMode|QSupported",
+        "Qaisle.depth|Qaisle.depth;00",
+        "Qaisle.fault",
     ];
     all_answer(&rt, &unknown, Ok(Command::Unknown));
     let wrong_form = [
-        "m|m,|m0|m0,|m,1|mzz|mg,1|m0,g|m0;1|m0,1,1|m0,1:|m 0,1|m0, 1|m-1,1|m0x0,1",
-        "M|M0,1|M,:|M0:00|M:00|M0:0,1|M0,1:0g|M0,1:g0|M0,1:00:|M0,1:00,00|M0,1: 00|M0,1:00 ",
-        "Qaisle.depth:|Qaisle.depth:0|Qaisle.depth:000",
-        "Qaisle.depth:0g|Qaisle.depth:g0|Qaisle.depth:+1",
+        "m|m,|m0|m0,|m,1|mzz|mg,1|m0,g|m0;1",
+        "m0,1,1|m0,1:|m 0,1|m0, 1|m-1,1|m0x0,1",
+        "M|M0,1|M,:|M0:00|M:00|M0:0,1|M0,1:0g",
+        "M0,1:g0|M0,1:00:|M0,1:00,00|M0,1: 00",
+        "M0,1:00 ",
+        "Qaisle.depth:|Qaisle.depth:0",
+        "Qaisle.depth:000",
+        "Qaisle.depth:0g|Qaisle.depth:g0",
+        "Qaisle.depth:+1",
         // 17 digits
-        "m00000000000000000,1|m0,00000000000000001",
-        "M00000000000000001,1:00|M0,00000000000000001:00",
+        "m00000000000000000,1",
+        "m0,00000000000000001",
+        "M00000000000000001,1:00",
+        "M0,00000000000000001:00",
         // it comes before no addresses, digits that are not two for each, and an end past the last address
-        "mzz,0|m00000000000000000,0|M0,0:zz|M0,0:g|M0,2:0g|M0,2:z",
-        "mffffffffffffffff,2x|Mffffffffffffffff,2:zzzz|Mffffffffffffffff,2:z",
+        "mzz,0|m00000000000000000,0|M0,0:zz",
+        "M0,0:g|M0,2:0g|M0,2:z",
+        "mffffffffffffffff,2x",
+        "Mffffffffffffffff,2:zzzz",
+        "Mffffffffffffffff,2:z",
     ];
     all_answer(&rt, &wrong_form, Err(0x22));
     let no_addresses = [
-        "m10,0|m0,0000000000000000|mffffffffffffffff,0|M0,0:",
+        "m10,0|m0,0000000000000000",
+        "mffffffffffffffff,0|M0,0:",
         // nor as many digits
         "M0,0:0|M0,0:00|Mffffffffffffffff,0:00",
     ];
     all_answer(&rt, &no_addresses, Err(0x23));
     let wrong_digits = [
-        "M10,2:00|M0,1:|M0,1:0|M0,1:000|M0,2:000|M0,2:000000|M0,ffffffffffffffff:00",
+        "M10,2:00|M0,1:|M0,1:0|M0,1:000|M0,2:000",
+        "M0,2:000000|M0,ffffffffffffffff:00",
         // twice as many as these addresses are 2^64, and 2^64 + 2
-        "M0,8000000000000000:|M0,8000000000000001:00",
+        "M0,8000000000000000:",
+        "M0,8000000000000001:00",
         // it comes before an end past the last address
-        "Mffffffffffffffff,2:00|M8000000000000000,8000000000000001:00",
+        "Mffffffffffffffff,2:00",
+        "M8000000000000000,8000000000000001:00",
         "Mffffffffffffffff,ffffffffffffffff:0000",
     ];
     all_answer(&rt, &wrong_digits, Err(0x24));
     let past_the_end = [
-        "mffffffffffffffff,2|mfffffffffffffffe,3|mffffffffffffffff,ffffffffffffffff",
-        "m2,ffffffffffffffff|m8000000000000000,8000000000000001",
-        "Mffffffffffffffff,2:0000|Mfffffffffffffffe,3:000000",
+        "mffffffffffffffff,2|mfffffffffffffffe,3",
+        "mffffffffffffffff,ffffffffffffffff",
+        "m2,ffffffffffffffff",
+        "m8000000000000000,8000000000000001",
+        "Mffffffffffffffff,2:0000",
+        "Mfffffffffffffffe,3:000000",
     ];
     all_answer(&rt, &past_the_end, Err(0x25));
 }

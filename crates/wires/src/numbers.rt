@@ -74,19 +74,19 @@ fn digits_of_numbers(rt: HostRuntime) {
 #[test]
 fn bytes_are_spelled_and_read(rt: HostRuntime) {
     // each with the room that there is, the number that is answered and the buffer
-    let spelled = [
-        (0, 0, b"........"),
-        (1, 0, b"........"),
-        (2, 2, b"01......"),
-        (3, 2, b"01......"),
-        (5, 4, b"01ab...."),
-        (6, 6, b"01abff.."),
-        (7, 6, b"01abff.."),
-        (8, 6, b"01abff.."),
+    let spelled: [(&[u8], usize, usize, &[u8; 8]); 8] = [
+        (b"", 8, 0, b"........"),
+        (b"\x01\xab\xff", 1, 0, b"........"),
+        (b"\x01\xab\xff", 2, 2, b"01......"),
+        (b"\x01\xab\xff", 3, 2, b"01......"),
+        (b"\x01\xab\xff", 5, 4, b"01ab...."),
+        (b"\x01\xab\xff", 6, 6, b"01abff.."),
+        (b"\x01\xab\xff", 7, 6, b"01abff.."),
+        (b"\x01\xab\xff", 8, 6, b"01abff.."),
     ];
-    for (room, count, expected) in spelled {
+    for (text, room, count, expected) in spelled {
         let mut out = *b"........";
-        let length = spell(b"\x01\xab\xff", &mut out[..room.min(8)]);
+        let length = spell(text, &mut out[..room.min(8)]);
         assert_eq!(rt; (length, out), (count, *expected), "room {room}");
     }
     let read = [
