@@ -71,10 +71,10 @@ fn digits_of_numbers(rt: HostRuntime) {
     assert_eq!(rt; more, ([], *b"c", *b"0ffffffffffffffff"));
 }
 
+// Each with the room that there is, the number that is answered and the buffer.
 #[test]
-fn bytes_are_spelled_and_read(rt: HostRuntime) {
-    // each with the room that there is, the number that is answered and the buffer
-    let spelled: [(&[u8], usize, usize, &[u8; 8]); 8] = [
+fn bytes_are_spelled(rt: HostRuntime) {
+    let cases: [(&[u8], usize, usize, &[u8; 8]); 8] = [
         (b"", 8, 0, b"........"),
         (b"\x01\xab\xff", 1, 0, b"........"),
         (b"\x01\xab\xff", 2, 2, b"01......"),
@@ -84,12 +84,17 @@ fn bytes_are_spelled_and_read(rt: HostRuntime) {
         (b"\x01\xab\xff", 7, 6, b"01abff.."),
         (b"\x01\xab\xff", 8, 6, b"01abff.."),
     ];
-    for (text, room, count, expected) in spelled {
+    for (text, room, count, expected) in cases {
         let mut out = *b"........";
         let length = spell(text, &mut out[..room.min(8)]);
         assert_eq!(rt; (length, out), (count, *expected), "room {room}");
     }
-    let read = [
+}
+
+// Each with its room, the number that is answered and the buffer.
+#[test]
+fn bytes_are_read(rt: HostRuntime) {
+    let cases = [
         ("", 4, 0, b"...."),
         ("010a1f", 4, 3, b"\x01\x0a\x1f."),
         ("010A1F", 3, 3, b"\x01\x0a\x1f."),
@@ -105,7 +110,7 @@ fn bytes_are_spelled_and_read(rt: HostRuntime) {
         ("010a1fzz", 4, 3, b"\x01\x0a\x1f."),
         ("010azz", 2, 2, b"\x01\x0a.."),
     ];
-    for (digits, room, count, expected) in read {
+    for (digits, room, count, expected) in cases {
         let mut out = *b"....";
         let length = bytes(digits.as_bytes(), &mut out[..room.min(4)]);
         assert_eq!(rt; (length, out), (count, *expected), "{digits}, room {room}");
