@@ -9,27 +9,27 @@ use Rattle.packets.specs.Splits.{split_once}
 use Rattle.std.specs.Result.{MatchResult}
 use Rattle.spaces.specs.declared.refusal.Refusal.{Refusal}
 use Rattle.spaces.specs.declared.refusal.Refusal.TheVariants.{BadForm, NoAddresses, WrongDigits, PastTheEnd}
-use Rattle.packets.specs.Commands.{Asked, halted, read, write, registers, detach, supported, last_fault, unknown}
-use Rattle.packets.specs.Asking.{addresses, all_digits, judged, reading, writing, written, deep, deepened, begins, query, setting, alone, asked}
-use Rattle.packets.specs.Forms.{Span, Bytes, Named, named_question, named_m, named_M, named_g, named_D, named_H, named_supported, named_depth, named_fault, Asks, asks_why, asks_m, asks_M, asks_g, asks_D, asks_H, asks_supported, asks_depth, asks_fault, asks_other, Wrong, m_form, M_form, depth_form, m_none, M_none, M_digits, m_end, M_end}
+use Rattle.packets.specs.Commands.{Asked, why_halted, read, write, registers, detach, supported, last_fault, unknown}
+use Rattle.packets.specs.Asking.{addresses, all_digits, judged, read_at, write_at, write_from, deep, deepened, begins, query, setting, by_itself, asked}
+use Rattle.packets.specs.Forms.{Span, Bytes, Named, named_why, named_read, named_write, named_registers, named_detach, named_thread, named_supported, named_depth, named_fault, Asks, asks_why, asks_read, asks_write, asks_registers, asks_detach, asks_thread, asks_supported, asks_depth, asks_fault, asks_other, Wrong, read_form, write_form, depth_form, read_none, write_none, write_digits, read_end, write_end}
 use Rattle.packets.proofs.Spans.{span_found, found_span, bytes_found, found_bytes}
 
 -- what an answer says of a payload
 abbrev pub Fits : List ℕ → Result Asked Refusal → Type 0
 Fits payload answer = MatchResult answer (Asks payload) (Wrong payload)
 
-reading_fits : (text : List ℕ) (w : Option (ℕ × ℕ)) → addresses text ≡ w → Fits (code "m" ∷ text) (reading w)
-reading_fits text None e = m_form text (λ first count s. let f = span_found text first count s in cc)
-reading_fits text (Some (first, count)) e = step (count == 0) (nat_lt (2 ^ 64) (first + count)) refl refl
+read_fits : (text : List ℕ) (w : Option (ℕ × ℕ)) → addresses text ≡ w → Fits (code "m" ∷ text) (read_at w)
+read_fits text None e = read_form text (λ first count s. let f = span_found text first count s in cc)
+read_fits text (Some (first, count)) e = step (count == 0) (nat_lt (2 ^ 64) (first + count)) refl refl
   where
     s : Span text first count
     s = found_span text first count e
 
     step : (t u : Bool) → (count == 0) ≡ t → nat_lt (2 ^ 64) (first + count) ≡ u
         → Fits (code "m" ∷ text) (if t then Err NoAddresses else if u then Err PastTheEnd else Ok (read first count))
-    step true u p q = m_none text first (subst (Span text first) (grind (arith, nat_tests)) s)
-    step false true p q = m_end text first count s (grind (arith, nat_tests)) (grind (arith, nat_tests))
-    step false false p q = asks_m text first count s (grind (arith, nat_tests)) (grind (arith, nat_tests))
+    step true u p q = read_none text first (subst (Span text first) (grind (arith, nat_tests)) s)
+    step false true p q = read_end text first count s (grind (arith, nat_tests)) (grind (arith, nat_tests))
+    step false false p q = asks_read text first count s (grind (arith, nat_tests)) (grind (arith, nat_tests))
 
 -- bytes that are to be patched, by what the span and the digits are
 module _ (text front digits : List ℕ) (e : split_once (code ":") text ≡ Some (front, digits)) where
@@ -46,22 +46,22 @@ module _ (text front digits : List ℕ) (e : split_once (code ":") text ≡ Some
     where
       step : (t u v : Bool) → (count == 0) ≡ t → (length digits == 2 * count) ≡ u → nat_lt (2 ^ 64) (first + count) ≡ v
           → Fits (code "M" ∷ text) (if t then Err NoAddresses else if u then (if v then Err PastTheEnd else Ok (write first digits)) else Err WrongDigits)
-      step true u v p q r = M_none text first digits (subst (λ n. Bytes text first n digits) (grind (arith, nat_tests)) b)
-      step false false v p q r = M_digits text first count digits b (grind (arith, nat_tests)) (grind (arith, nat_tests))
-      step false true true p q r = M_end text first count digits b (grind (arith, nat_tests)) (grind (arith, nat_tests)) (grind (arith, nat_tests))
-      step false true false p q r = asks_M text first count digits b (grind (arith, nat_tests)) (grind (arith, nat_tests)) (grind (arith, nat_tests))
+      step true u v p q r = write_none text first digits (subst (λ n. Bytes text first n digits) (grind (arith, nat_tests)) b)
+      step false false v p q r = write_digits text first count digits b (grind (arith, nat_tests)) (grind (arith, nat_tests))
+      step false true true p q r = write_end text first count digits b (grind (arith, nat_tests)) (grind (arith, nat_tests)) (grind (arith, nat_tests))
+      step false true false p q r = asks_write text first count digits b (grind (arith, nat_tests)) (grind (arith, nat_tests)) (grind (arith, nat_tests))
 
-  writing_fits : (w : Option (ℕ × ℕ)) → addresses front ≡ w → Fits (code "M" ∷ text) (writing w digits)
-  writing_fits None f = M_form text (no_bytes (inl f))
-  writing_fits (Some (first, count)) f = step (all_digits digits) refl
+  write_at_fits : (w : Option (ℕ × ℕ)) → addresses front ≡ w → Fits (code "M" ∷ text) (write_at w digits)
+  write_at_fits None f = write_form text (no_bytes (inl f))
+  write_at_fits (Some (first, count)) f = step (all_digits digits) refl
     where
       step : (t : Bool) → all_digits digits ≡ t → Fits (code "M" ∷ text) (if t then judged first count (length digits == 2 * count) (write first digits) else Err BadForm)
       step true q = judged_fits first count (found_bytes text front first count digits e f q)
-      step false q = M_form text (no_bytes (inr q))
+      step false q = write_form text (no_bytes (inr q))
 
-written_fits : (text : List ℕ) (w : Option (List ℕ × List ℕ)) → split_once (code ":") text ≡ w → Fits (code "M" ∷ text) (written w)
-written_fits text None e = M_form text (λ first count ds b. let t = (bytes_found text first count ds b).1 in cc)
-written_fits text (Some (front, digits)) e = writing_fits text front digits e (addresses front) refl
+write_fits : (text : List ℕ) (w : Option (List ℕ × List ℕ)) → split_once (code ":") text ≡ w → Fits (code "M" ∷ text) (write_from w)
+write_fits text None e = write_form text (λ first count ds b. let t = (bytes_found text first count ds b).1 in cc)
+write_fits text (Some (front, digits)) e = write_at_fits text front digits e (addresses front) refl
 
 -- no payload that has a name is answered as one without
 
@@ -73,18 +73,18 @@ judged_known : (first count : ℕ) (fits : Bool) (a : Asked) → a ≢ unknown �
 judged_known first count fits a h =
     chosen (count == 0) (Err NoAddresses) _ (λ e. cc) (chosen fits _ (Err WrongDigits) (chosen (nat_lt (2 ^ 64) (first + count)) (Err PastTheEnd) (Ok a) (λ e. cc) (λ e. h cc)) (λ e. cc))
 
-reading_known : (w : Option (ℕ × ℕ)) → reading w ≢ Ok unknown
-reading_known None e = cc
-reading_known (Some (first, count)) e = judged_known first count true (read first count) (λ e. cc) e
+read_known : (w : Option (ℕ × ℕ)) → read_at w ≢ Ok unknown
+read_known None e = cc
+read_known (Some (first, count)) e = judged_known first count true (read first count) (λ e. cc) e
 
-writing_known : (w : Option (ℕ × ℕ)) (digits : List ℕ) → writing w digits ≢ Ok unknown
-writing_known None digits e = cc
-writing_known (Some (first, count)) digits e =
+write_at_known : (w : Option (ℕ × ℕ)) (digits : List ℕ) → write_at w digits ≢ Ok unknown
+write_at_known None digits e = cc
+write_at_known (Some (first, count)) digits e =
     chosen (all_digits digits) _ (Err BadForm) (judged_known first count (length digits == 2 * count) (write first digits) (λ e. cc)) (λ e. cc) e
 
-written_known : (w : Option (List ℕ × List ℕ)) → written w ≢ Ok unknown
-written_known None e = cc
-written_known (Some (front, digits)) e = writing_known (addresses front) digits e
+write_known : (w : Option (List ℕ × List ℕ)) → write_from w ≢ Ok unknown
+write_known None e = cc
+write_known (Some (front, digits)) e = write_at_known (addresses front) digits e
 
 deep_known : (o : Option ℕ) → deep o ≢ Ok unknown
 deep_known None e = cc
@@ -94,12 +94,12 @@ deepened_known : (text : List ℕ) → deepened text ≢ Ok unknown
 deepened_known text = chosen (length text == 2) (deep (spelled 0 text)) (Err BadForm) (deep_known (spelled 0 text)) (λ e. cc)
 
 known : (payload : List ℕ) → Named payload → asked payload ≢ Ok unknown
-known payload named_question e = cc
-known payload (named_m text) e = reading_known (addresses text) e
-known payload (named_M text) e = written_known (split_once (code ":") text) e
-known payload named_g e = cc
-known payload named_D e = cc
-known payload (named_H text) e = cc
+known payload named_why e = cc
+known payload (named_read text) e = read_known (addresses text) e
+known payload (named_write text) e = write_known (split_once (code ":") text) e
+known payload named_registers e = cc
+known payload named_detach e = cc
+known payload (named_thread text) e = cc
 known payload (named_supported text) e = cc
 known payload (named_depth text) e = deepened_known text e
 known payload named_fault e = cc
@@ -140,19 +140,19 @@ setting_fits rest = if_fits (code "Q" ∷ rest) (begins (codes "Qaisle.depth:") 
     (λ e. subst (λ p. Fits p (deepened (drop 13 (code "Q" ∷ rest)))) (sym (begins_is (codes "Qaisle.depth:") (code "Q" ∷ rest) e)) (deepened_fits (drop 13 (code "Q" ∷ rest))))
     (λ e. nameless (code "Q" ∷ rest) (rw e refl))
 
-alone_fits : (c : ℕ) (a : Asked) (rest : List ℕ) → Asks (c ∷ []) a → ((x : ℕ) (xs : List ℕ) → asked (c ∷ x ∷ xs) ≡ Ok unknown) → Fits (c ∷ rest) (Ok (alone a rest))
-alone_fits c a [] h k = h
-alone_fits c a (x ∷ xs) h k = nameless (c ∷ x ∷ xs) (k x xs)
+by_itself_fits : (c : ℕ) (a : Asked) (rest : List ℕ) → Asks (c ∷ []) a → ((x : ℕ) (xs : List ℕ) → asked (c ∷ x ∷ xs) ≡ Ok unknown) → Fits (c ∷ rest) (Ok (by_itself a rest))
+by_itself_fits c a [] h k = h
+by_itself_fits c a (x ∷ xs) h k = nameless (c ∷ x ∷ xs) (k x xs)
 
 pub fits : (payload : List ℕ) → Fits payload (asked payload)
 fits [] = nameless [] refl
 fits (c ∷ rest) =
-    if_fits (c ∷ rest) (c == code "?") _ _ (λ e. rw (same c (code "?") e) (alone_fits (code "?") halted rest asks_why (λ x xs. refl)))
-    (λ n1. if_fits (c ∷ rest) (c == code "m") _ _ (λ e. rw (same c (code "m") e) (reading_fits rest (addresses rest) refl))
-    (λ n2. if_fits (c ∷ rest) (c == code "M") _ _ (λ e. rw (same c (code "M") e) (written_fits rest (split_once (code ":") rest) refl))
-    (λ n3. if_fits (c ∷ rest) (c == code "g") _ _ (λ e. rw (same c (code "g") e) (alone_fits (code "g") registers rest asks_g (λ x xs. refl)))
-    (λ n4. if_fits (c ∷ rest) (c == code "D") _ _ (λ e. rw (same c (code "D") e) (alone_fits (code "D") detach rest asks_D (λ x xs. refl)))
-    (λ n5. if_fits (c ∷ rest) (c == code "H") _ _ (λ e. rw (same c (code "H") e) (asks_H rest))
+    if_fits (c ∷ rest) (c == code "?") _ _ (λ e. rw (same c (code "?") e) (by_itself_fits (code "?") why_halted rest asks_why (λ x xs. refl)))
+    (λ n1. if_fits (c ∷ rest) (c == code "m") _ _ (λ e. rw (same c (code "m") e) (read_fits rest (addresses rest) refl))
+    (λ n2. if_fits (c ∷ rest) (c == code "M") _ _ (λ e. rw (same c (code "M") e) (write_fits rest (split_once (code ":") rest) refl))
+    (λ n3. if_fits (c ∷ rest) (c == code "g") _ _ (λ e. rw (same c (code "g") e) (by_itself_fits (code "g") registers rest asks_registers (λ x xs. refl)))
+    (λ n4. if_fits (c ∷ rest) (c == code "D") _ _ (λ e. rw (same c (code "D") e) (by_itself_fits (code "D") detach rest asks_detach (λ x xs. refl)))
+    (λ n5. if_fits (c ∷ rest) (c == code "H") _ _ (λ e. rw (same c (code "H") e) (asks_thread rest))
     (λ n6. if_fits (c ∷ rest) (c == code "q") _ _ (λ e. rw (same c (code "q") e) (query_fits rest))
     (λ n7. if_fits (c ∷ rest) (c == code "Q") _ _ (λ e. rw (same c (code "Q") e) (setting_fits rest))
     (λ n8. nameless (c ∷ rest) (rw (n1, n2, n3, n4, n5, n6, n7, n8) refl)))))))))

@@ -6,31 +6,31 @@ use Rattle.packets.specs.Digits.{lower, digits, spelled}
 use Rattle.packets.specs.Splits.{split_once, Lacks}
 use Rattle.packets.specs.Frames.{checksum, framed, has_frame, Frames}
 use Rattle.packets.specs.Items.{Heard, unfinished, resend, ignored, wrong_sum, no_end, packet, said}
-use Rattle.packets.specs.Hearing.{weighed, closed, opened, heard}
-use Rattle.packets.specs.Streams.{NoHash, IsPayload, enclosed, Begins, nothing, no_hash_yet, no_digits_yet, minus, other, wrong, endless, good, Hears}
-use Rattle.packets.proofs.Reading.{read_digits}
+use Rattle.packets.specs.Hearing.{weighed, closed, parted, heard}
+use Rattle.packets.specs.Streams.{NoHash, IsPayload, enclosed, Begins, nothing, no_hash_yet, no_digits_yet, minus, other, wrong, endless, good, Hears, HeardBack}
+use Rattle.packets.proofs.Reading.{take_each, read_digits}
 use Rattle.packets.proofs.Splitting.{Split, splits, split_found, split_none, Behind, split_behind}
 
 -- What a stream begins with is what is heard.
 
-opened_at : (payload behind : List ℕ) → IsPayload payload → heard (enclosed payload behind) ≡ closed payload behind
-opened_at payload behind p = grind (arith, nat_tests, split_found (code "#") payload behind p.0)
+enclosed_is : (payload behind : List ℕ) → IsPayload payload → heard (enclosed payload behind) ≡ closed payload behind
+enclosed_is payload behind p = grind (arith, nat_tests, split_found (code "#") payload behind p.0)
 
 heard_is : (s : List ℕ) (item : Heard) (rest : List ℕ) → Begins s item rest → heard s ≡ item
 heard_is s item rest nothing = refl
 heard_is s item rest (no_hash_yet bytes p) = grind (arith, nat_tests, split_none (code "#") bytes p.0)
-heard_is s item rest (no_digits_yet payload [] p l) = opened_at payload [] p
-heard_is s item rest (no_digits_yet payload (c ∷ []) p l) = opened_at payload (c ∷ []) p
+heard_is s item rest (no_digits_yet payload [] p l) = enclosed_is payload [] p
+heard_is s item rest (no_digits_yet payload (c ∷ []) p l) = enclosed_is payload (c ∷ []) p
 heard_is s item rest (no_digits_yet payload (c ∷ d ∷ cs) p l) = absurd (omega arith)
 heard_is s item rest (minus r) = refl
 heard_is s item rest (other b r h k) = grind (arith, nat_tests)
-heard_is s item rest (wrong payload high low r p l) = opened_at payload (high ∷ low ∷ r) p ∙ grind (arith, nat_tests)
+heard_is s item rest (wrong payload high low r p l) = enclosed_is payload (high ∷ low ∷ r) p ∙ grind (arith, nat_tests)
 heard_is s item rest (endless bytes r h k) = step (split_once (code "#") (bytes ++ r)) (split_behind (code "#") bytes r h) refl
   where
     step : (w : Option (List ℕ × List ℕ)) → Behind bytes w → split_once (code "#") (bytes ++ r) ≡ w → heard (code "$" ∷ (bytes ++ r)) ≡ no_end
     step None b e = grind (arith, nat_tests, length-append bytes r)
     step (Some p) b e = grind (arith, nat_tests)
-heard_is s item rest (good payload high low r p l) = opened_at payload (high ∷ low ∷ r) p ∙ grind (arith, nat_tests)
+heard_is s item rest (good payload high low r p l) = enclosed_is payload (high ∷ low ∷ r) p ∙ grind (arith, nat_tests)
 
 -- what is heard stands at the stream's head
 
@@ -65,26 +65,21 @@ closed_at_head payload (high ∷ low ∷ rest) p = step (spelled 0 (high ∷ low
     step None e = bad (λ f. cc)
     step (Some n) e = sum_step n e (n == checksum payload) refl
 
-lacks_take : (mark n : ℕ) (bs : List ℕ) → Lacks mark bs → Lacks mark (take n bs)
-lacks_take mark zero bs h = tt
-lacks_take mark (suc n) [] h = tt
-lacks_take mark (suc n) (b ∷ bs) h = (h.0, lacks_take mark n bs h.1)
-
 no_end_at_head : (front rest : List ℕ) → NoHash front → 4097 ≤ length front → AtHead (code "$" ∷ (front ++ rest)) no_end
 no_end_at_head front rest h k = record { within = omega arith; begins = cut 4097 k refl }
   where
     cut : (n : ℕ) → n ≤ length front → n ≡ 4097 → Begins (code "$" ∷ (front ++ rest)) no_end (front ++ rest)
     cut n l e =
-        let t = endless (take n front) (drop n front ++ rest) (lacks_take (code "#") n front h) (omega (arith, length-take n front)) in
+        let t = endless (take n front) (drop n front ++ rest) (take_each _ n front h) (omega (arith, length-take n front)) in
         subst (λ xs. Begins (code "$" ∷ xs) no_end xs) (sym (append_assoc (take n front) (drop n front) rest) ∙ ap (λ xs. xs ++ rest) (take-append-drop n front)) t
 
-opened_at_head : (bytes : List ℕ) (w : Option (List ℕ × List ℕ)) → Split (code "#") bytes w → AtHead (code "$" ∷ bytes) (opened bytes w)
-opened_at_head bytes None s = step (has_frame bytes) refl
+parted_at_head : (bytes : List ℕ) (w : Option (List ℕ × List ℕ)) → Split (code "#") bytes w → AtHead (code "$" ∷ bytes) (parted bytes w)
+parted_at_head bytes None s = step (has_frame bytes) refl
   where
     step : (t : Bool) → has_frame bytes ≡ t → AtHead (code "$" ∷ bytes) (if t then unfinished else no_end)
     step true q = record { within = omega arith; begins = no_hash_yet bytes (s, grind (arith, nat_tests)) }
     step false q = subst (λ xs. AtHead (code "$" ∷ xs) no_end) (append-nil bytes) (no_end_at_head bytes [] s (grind (arith, nat_tests)))
-opened_at_head bytes (Some p) s = step (has_frame p.0) refl
+parted_at_head bytes (Some p) s = step (has_frame p.0) refl
   where
     step : (t : Bool) → has_frame p.0 ≡ t → AtHead (code "$" ∷ bytes) (if t then closed p.0 p.1 else no_end)
     step true q = rw s.1 (closed_at_head p.0 p.1 (s.0, grind (arith, nat_tests)))
@@ -94,8 +89,8 @@ heard_at_head : (s : List ℕ) → AtHead s (heard s)
 heard_at_head [] = record { within = omega arith; begins = nothing }
 heard_at_head (c ∷ bytes) = step (c == code "$") (c == code "-") refl refl
   where
-    step : (t u : Bool) → (c == code "$") ≡ t → (c == code "-") ≡ u → AtHead (c ∷ bytes) (if t then opened bytes (split_once (code "#") bytes) else if u then resend else ignored)
-    step true u e f = let is : c ≡ code "$" = grind (arith, nat_tests) in rw is (opened_at_head bytes (split_once (code "#") bytes) (splits (code "#") bytes))
+    step : (t u : Bool) → (c == code "$") ≡ t → (c == code "-") ≡ u → AtHead (c ∷ bytes) (if t then parted bytes (split_once (code "#") bytes) else if u then resend else ignored)
+    step true u e f = let is : c ≡ code "$" = grind (arith, nat_tests) in rw is (parted_at_head bytes (split_once (code "#") bytes) (splits (code "#") bytes))
     step false true e f = let is : c ≡ code "-" = grind (arith, nat_tests) in rw is (record { within = omega arith; begins = minus bytes })
     step false false e f = record { within = omega arith; begins = other c bytes (grind (arith, nat_tests)) (grind (arith, nat_tests)) }
 
@@ -155,10 +150,10 @@ framed_heard payload more p =
     let b = good payload (lower (sum / 16 % 16)) (lower (sum % 16)) more p e in
     rw s (subst (Hears (enclosed payload (digits 2 sum ++ more))) (heard_is (enclosed payload (digits 2 sum ++ more)) (packet payload) more b) (hears (enclosed payload (digits 2 sum ++ more))))
 
-pub front_heard : (payload before after : List ℕ) (n : ℕ) → Frames payload before after (Some n) → NoHash payload → (more : List ℕ) → Hears (take n after ++ more) (packet payload)
+pub front_heard : (payload before after : List ℕ) (n : ℕ) → Frames payload before after (Some n) → HeardBack payload after n
 front_heard payload before after n f h more = step (has_frame payload) refl f.how_many f.buffer
   where
-    step : (t : Bool) → has_frame payload ≡ t → Some n ≡ cond t (Some (length payload + 4)) None → after ≡ cond t (framed payload ++ drop (length payload + 4) before) before
+    step : (t : Bool) → has_frame payload ≡ t → Some n ≡ (if t then Some (length payload + 4) else None) → after ≡ (if t then framed payload ++ drop (length payload + 4) before else before)
         → Hears (take n after ++ more) (packet payload)
     step false q e b = cc
     step true q e b =

@@ -6,34 +6,34 @@ use Rattle.packets.specs.Splits.{split_once}
 use Rattle.spaces.specs.declared.refusal.Refusal.{Refusal}
 use Rattle.spaces.specs.declared.refusal.Refusal.TheVariants.{BadForm}
 use Rattle.packets.specs.Commands.{Asked, write, unknown}
-use Rattle.packets.specs.Asking.{addresses, all_digits, judged, reading, writing, written, deep, asked}
-use Rattle.packets.specs.Forms.{Named, named_question, named_m, named_M, named_g, named_D, named_H, named_supported, named_depth, named_fault, Asks, asks_why, asks_m, asks_M, asks_g, asks_D, asks_H, asks_supported, asks_depth, asks_fault, asks_other, Wrong, m_form, M_form, depth_form, m_none, M_none, M_digits, m_end, M_end, Parses}
+use Rattle.packets.specs.Asking.{addresses, all_digits, judged, read_at, write_at, write_from, deep, asked}
+use Rattle.packets.specs.Forms.{Named, named_why, named_read, named_write, named_registers, named_detach, named_thread, named_supported, named_depth, named_fault, Asks, asks_why, asks_read, asks_write, asks_registers, asks_detach, asks_thread, asks_supported, asks_depth, asks_fault, asks_other, Wrong, read_form, write_form, depth_form, read_none, write_none, write_digits, read_end, write_end, Parses}
 use Rattle.packets.proofs.Spans.{span_found, found_span, bytes_found, found_bytes}
 use Rattle.packets.proofs.Fitting.{Fits, fits}
 
 -- and no other answer fits
 
 asks_named : (payload : List ℕ) (a : Asked) → Asks payload a → (Named payload → ⊥) → a ≡ unknown
-asks_named payload a asks_why n = absurd (n named_question)
-asks_named payload a (asks_m text first count s h k) n = absurd (n (named_m text))
-asks_named payload a (asks_M text first count digits b h e k) n = absurd (n (named_M text))
-asks_named payload a asks_g n = absurd (n named_g)
-asks_named payload a asks_D n = absurd (n named_D)
-asks_named payload a (asks_H text) n = absurd (n (named_H text))
+asks_named payload a asks_why n = absurd (n named_why)
+asks_named payload a (asks_read text first count s h k) n = absurd (n (named_read text))
+asks_named payload a (asks_write text first count digits b h e k) n = absurd (n (named_write text))
+asks_named payload a asks_registers n = absurd (n named_registers)
+asks_named payload a asks_detach n = absurd (n named_detach)
+asks_named payload a (asks_thread text) n = absurd (n (named_thread text))
 asks_named payload a (asks_supported text) n = absurd (n (named_supported text))
 asks_named payload a (asks_depth text d t) n = absurd (n (named_depth text))
 asks_named payload a asks_fault n = absurd (n named_fault)
 asks_named payload a (asks_other p m) n = refl
 
 wrong_named : (payload : List ℕ) (r : Refusal) → Wrong payload r → Named payload
-wrong_named payload r (m_form text n) = named_m text
-wrong_named payload r (M_form text n) = named_M text
+wrong_named payload r (read_form text n) = named_read text
+wrong_named payload r (write_form text n) = named_write text
 wrong_named payload r (depth_form text n) = named_depth text
-wrong_named payload r (m_none text first s) = named_m text
-wrong_named payload r (M_none text first digits b) = named_M text
-wrong_named payload r (M_digits text first count digits b h n) = named_M text
-wrong_named payload r (m_end text first count s h k) = named_m text
-wrong_named payload r (M_end text first count digits b h e k) = named_M text
+wrong_named payload r (read_none text first s) = named_read text
+wrong_named payload r (write_none text first digits b) = named_write text
+wrong_named payload r (write_digits text first count digits b h n) = named_write text
+wrong_named payload r (read_end text first count s h k) = named_read text
+wrong_named payload r (write_end text first count digits b h e k) = named_write text
 
 unnamed : (payload : List ℕ) (w : Result Asked Refusal) → Fits payload w → (Named payload → ⊥) → w ≡ Ok unknown
 unnamed payload (Ok a) f n = ap Ok (asks_named payload a f n)
@@ -41,34 +41,34 @@ unnamed payload (Err r) f n = absurd (n (wrong_named payload r f))
 
 asks_is : (payload : List ℕ) (a : Asked) → Asks payload a → asked payload ≡ Ok a
 asks_is payload a asks_why = refl
-asks_is payload a (asks_m text first count s h k) = rw (span_found text first count s) (grind (arith, nat_tests))
-asks_is payload a (asks_M text first count digits b h e k) = let t = bytes_found text first count digits b in rw (t.1, t.2, t.3) (grind (arith, nat_tests))
-asks_is payload a asks_g = refl
-asks_is payload a asks_D = refl
-asks_is payload a (asks_H text) = refl
+asks_is payload a (asks_read text first count s h k) = rw (span_found text first count s) (grind (arith, nat_tests))
+asks_is payload a (asks_write text first count digits b h e k) = let t = bytes_found text first count digits b in rw (t.1, t.2, t.3) (grind (arith, nat_tests))
+asks_is payload a asks_registers = refl
+asks_is payload a asks_detach = refl
+asks_is payload a (asks_thread text) = refl
 asks_is payload a (asks_supported text) = refl
 asks_is payload a (asks_depth text d t) = rw (t.two, t.is) refl
 asks_is payload a asks_fault = refl
 asks_is payload a (asks_other p n) = unnamed payload (asked payload) (fits payload) n
 
 wrong_is : (payload : List ℕ) (r : Refusal) → Wrong payload r → asked payload ≡ Err r
-wrong_is payload r (m_form text n) = step (addresses text) refl
+wrong_is payload r (read_form text n) = step (addresses text) refl
   where
-    step : (w : Option (ℕ × ℕ)) → addresses text ≡ w → reading w ≡ Err BadForm
+    step : (w : Option (ℕ × ℕ)) → addresses text ≡ w → read_at w ≡ Err BadForm
     step None e = refl
     step (Some (first, count)) e = absurd (n first count (found_span text first count e))
-wrong_is payload r (M_form text n) = step (split_once (code ":") text) refl
+wrong_is payload r (write_form text n) = step (split_once (code ":") text) refl
   where
     digit_step : (front digits : List ℕ) (first count : ℕ) → split_once (code ":") text ≡ Some (front, digits) → addresses front ≡ Some (first, count) → (t : Bool) → all_digits digits ≡ t
         → (if t then judged first count (length digits == 2 * count) (write first digits) else Err BadForm) ≡ Err BadForm
     digit_step front digits first count e f true q = absurd (n first count digits (found_bytes text front first count digits e f q))
     digit_step front digits first count e f false q = refl
 
-    span_step : (front digits : List ℕ) → split_once (code ":") text ≡ Some (front, digits) → (w : Option (ℕ × ℕ)) → addresses front ≡ w → writing w digits ≡ Err BadForm
+    span_step : (front digits : List ℕ) → split_once (code ":") text ≡ Some (front, digits) → (w : Option (ℕ × ℕ)) → addresses front ≡ w → write_at w digits ≡ Err BadForm
     span_step front digits e None f = refl
     span_step front digits e (Some (first, count)) f = digit_step front digits first count e f (all_digits digits) refl
 
-    step : (w : Option (List ℕ × List ℕ)) → split_once (code ":") text ≡ w → written w ≡ Err BadForm
+    step : (w : Option (List ℕ × List ℕ)) → split_once (code ":") text ≡ w → write_from w ≡ Err BadForm
     step None e = refl
     step (Some (front, digits)) e = span_step front digits e (addresses front) refl
 wrong_is payload r (depth_form text n) = step (length text == 2) (spelled 0 text) refl refl
@@ -77,11 +77,11 @@ wrong_is payload r (depth_form text n) = step (length text == 2) (spelled 0 text
     step false o p q = refl
     step true None p q = refl
     step true (Some d) p q = absurd (n d (record { two = grind (arith, nat_tests); is = q }))
-wrong_is payload r (m_none text first s) = rw (span_found text first 0 s) refl
-wrong_is payload r (M_none text first digits b) = let t = bytes_found text first 0 digits b in rw (t.1, t.2, t.3) refl
-wrong_is payload r (M_digits text first count digits b h n) = let t = bytes_found text first count digits b in rw (t.1, t.2, t.3) (grind (arith, nat_tests))
-wrong_is payload r (m_end text first count s h k) = rw (span_found text first count s) (grind (arith, nat_tests))
-wrong_is payload r (M_end text first count digits b h e k) = let t = bytes_found text first count digits b in rw (t.1, t.2, t.3) (grind (arith, nat_tests))
+wrong_is payload r (read_none text first s) = rw (span_found text first 0 s) refl
+wrong_is payload r (write_none text first digits b) = let t = bytes_found text first 0 digits b in rw (t.1, t.2, t.3) refl
+wrong_is payload r (write_digits text first count digits b h n) = let t = bytes_found text first count digits b in rw (t.1, t.2, t.3) (grind (arith, nat_tests))
+wrong_is payload r (read_end text first count s h k) = rw (span_found text first count s) (grind (arith, nat_tests))
+wrong_is payload r (write_end text first count digits b h e k) = let t = bytes_found text first count digits b in rw (t.1, t.2, t.3) (grind (arith, nat_tests))
 
 pub parses : (payload : List ℕ) → Parses payload (asked payload)
 parses payload = record { fits = fits payload; only_asked = asks_is payload; only_refused = wrong_is payload }

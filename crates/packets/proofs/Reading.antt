@@ -1,9 +1,33 @@
-use Rattle.std.proofs.Common.{◌≡◌, ℕ, zero, suc, ◌+◌, ◌*◌, ◌/◌, ◌%◌, ◌^◌, ◌<◌, ◌≤◌, min, List, [], ◌∷◌, ◌++◌, length, take, drop, get_or, Some, None, Option, refl, ap, ◌∙◌, arith, pow-add}
+use Rattle.std.proofs.Common.{◌≡◌, ℕ, zero, suc, ◌+◌, ◌*◌, ◌/◌, ◌%◌, ◌^◌, ◌<◌, ◌≤◌, min, List, [], ◌∷◌, ◌++◌, length, map, take, drop, get_or, Some, None, Option, refl, ap, ◌∙◌, arith, pow-add}
 use Rattle.std.specs.Option.{option_and_then}
 use Rattle.std.specs.List.{AllByRecursion}
-use Rattle.std.proofs.lemmas.List.{length-append, length-take, take_at, take_min}
+use Rattle.std.specs.Char.{to_ascii_lowercase}
+use Rattle.std.proofs.lemmas.List.{length-append, length-take, take_at, take_min, length-map}
 use Rattle.std.proofs.lemmas.Bool.Decides.{nat_tests}
 use Rattle.packets.specs.Digits.{digit, lower, spelled, digits, number, spell, paired}
+
+-- what holds of each element holds of those in front
+pub take_each : (P : ℕ → Type 0) (n : ℕ) (xs : List ℕ) → AllByRecursion P xs → AllByRecursion P (take n xs)
+take_each P zero xs h = tt
+take_each P (suc n) [] h = tt
+take_each P (suc n) (x ∷ xs) h = (h.0, take_each P n xs h.1)
+
+-- Digits of either case have the same values.
+
+either : (c : ℕ) → digit (to_ascii_lowercase c) ≡ digit c
+either c = grind (arith, nat_tests)
+
+spelled_either : (n : ℕ) (cs : List ℕ) → spelled n (map to_ascii_lowercase cs) ≡ spelled n cs
+spelled_either n [] = refl
+spelled_either n (c ∷ cs) = rw (either c) (step (digit c) (λ m. spelled_either m cs))
+  where
+    step : (o : Option ℕ) → ((m : ℕ) → spelled m (map to_ascii_lowercase cs) ≡ spelled m cs)
+        → option_and_then (λ d. spelled (16 * n + d) (map to_ascii_lowercase cs)) o ≡ option_and_then (λ d. spelled (16 * n + d) cs) o
+    step None h = refl
+    step (Some d) h = h (16 * n + d)
+
+pub number_either : (cs : List ℕ) → number (map to_ascii_lowercase cs) ≡ number cs
+number_either cs = rw (length-map cs to_ascii_lowercase, spelled_either 0 cs) refl
 
 -- Digits that are written are read back.
 
@@ -48,11 +72,6 @@ by_index : (bytes : List ℕ) → ((i : ℕ) → get_or bytes i 0 < 256) → All
 by_index [] h = tt
 by_index (b ∷ bs) h = (h 0, by_index bs (λ i. h (suc i)))
 
-small_take : (n : ℕ) (bytes : List ℕ) → AllByRecursion (λ b. b < 256) bytes → AllByRecursion (λ b. b < 256) (take n bytes)
-small_take zero bytes h = tt
-small_take (suc n) [] h = tt
-small_take (suc n) (b ∷ bs) h = (h.0, small_take n bs h.1)
-
 length_spell : (bytes : List ℕ) → length (spell bytes) ≡ 2 * length bytes
 length_spell [] = refl
 length_spell (b ∷ bs) = grind (arith, length_spell bs)
@@ -64,4 +83,4 @@ front_back bytes before after n e f h =
     let q : n ≡ min (length before / 2) (length bytes) = omega (arith, e) in
     let k : take n bytes ≡ take (length before / 2) bytes = rw q (take_min (length before / 2) bytes) in
     let t = take_at (spell (take n bytes)) (drop (2 * n) before) (2 * n) (grind (arith, length_spell, length-take)) in
-    rw (f, t) (paired_spell (take n bytes) (small_take n bytes (by_index bytes h))) ∙ k
+    rw (f, t) (paired_spell (take n bytes) (take_each _ n bytes (by_index bytes h))) ∙ k

@@ -2,7 +2,7 @@ use Prim.Native.Char.{code}
 use Rattle.std.proofs.Common.{◌≡◌, ℕ, ◌+◌, ◌-◌, ◌≤◌, List, [], ◌∷◌, ◌++◌, length, drop, Some, nat_le, true, refl, sym, ap, ◌∙◌, arith}
 use Rattle.std.specs.List.{slice_set}
 use Rattle.std.proofs.lemmas.Bool.Decides.{nat_tests}
-use Rattle.std.proofs.lemmas.List.{append_assoc}
+use Rattle.std.proofs.lemmas.List.{append_assoc, length-append, length-drop}
 use Rattle.std.proofs.lemmas.Grind.{common_steps}
 use borrow.Rule.Slice.PartMut.{put_mid}
 use Rattle.packets.specs.Digits.{digits}
@@ -14,6 +14,13 @@ written : (reply payload tail : List ℕ) (n k m : ℕ) → length payload ≡ n
 written [] payload tail n k m h i j l r = absurd (omega arith)
 written (b ∷ bs) payload tail n k m h i j l r = grind (arith, common_steps)
 
+long : (payload tail before : List ℕ) → length tail ≡ 3 → length payload + 4 ≤ length before
+    → length (code "$" ∷ (payload ++ (tail ++ drop (length payload + 4) before))) ≡ length before
+long payload tail before h k =
+    let d = length-drop (length payload + 4) before in
+    let t = length-append tail (drop (length payload + 4) before) in
+    omega (arith, d, t, length-append payload (tail ++ drop (length payload + 4) before))
+
 module _ (payload before : List ℕ) (room : length before ≡ 4100) (short : length payload ≤ 4096) where
   abbrev n : ℕ
   n = length payload
@@ -23,4 +30,8 @@ module _ (payload before : List ℕ) (room : length before ≡ 4100) (short : le
   frames front tail e f =
       let t : nat_le (length payload) 4096 ≡ true = grind (arith, nat_tests) in
       let w = written before payload tail n (n + 1 + 3 - (n + 1)) (n + 1 - 1) refl (omega arith) (rw f refl) (omega arith) (omega arith) in
-      rw e (record { how_many = rw t (ap Some (omega arith)); buffer = rw t (w ∙ rw f (ap (λ xs. code "$" ∷ xs) (sym (append_assoc payload (code "#" ∷ digits 2 (checksum payload)) (drop (n + 4) before))))) })
+      rw e (record {
+        room = ap length w ∙ long payload tail before (rw f refl) (omega arith) ∙ room;
+        how_many = rw t (ap Some (omega arith));
+        buffer = rw t (w ∙ rw f (ap (λ xs. code "$" ∷ xs) (sym (append_assoc payload (code "#" ∷ digits 2 (checksum payload)) (drop (n + 4) before)))));
+      })

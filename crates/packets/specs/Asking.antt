@@ -7,7 +7,7 @@ use Rattle.spaces.specs.declared.refusal.Refusal.TheVariants.{BadForm, NoAddress
 use Prim.Native.Char.{code}
 use Rattle.packets.specs.Digits.{digit, number, spelled}
 use Rattle.packets.specs.Splits.{split_once}
-use Rattle.packets.specs.Commands.{Asked, halted, read, write, registers, detach, thread, supported, depth, last_fault, unknown}
+use Rattle.packets.specs.Commands.{Asked, why_halted, read, write, registers, detach, thread, supported, depth, last_fault, unknown}
 
 -- an address and a number of addresses, with a comma between
 abbrev pub both : Option ℕ → Option ℕ → Option (ℕ × ℕ)
@@ -25,26 +25,26 @@ judged first count fits asked =
     else if fits then (if nat_lt (2 ^ 64) (first + count) then Err PastTheEnd else Ok asked)
     else Err WrongDigits
 
-abbrev pub reading : Option (ℕ × ℕ) → Result Asked Refusal
-reading None = Err BadForm
-reading (Some (first, count)) = judged first count true (read first count)
+abbrev pub read_at : Option (ℕ × ℕ) → Result Asked Refusal
+read_at None = Err BadForm
+read_at (Some (first, count)) = judged first count true (read first count)
 
 abbrev pub read_of : List ℕ → Result Asked Refusal
-read_of text = reading (addresses text)
+read_of text = read_at (addresses text)
 
 abbrev pub all_digits : List ℕ → Bool
 all_digits cs = list_all (λ c. is_some (digit c)) cs
 
-abbrev pub writing : Option (ℕ × ℕ) → List ℕ → Result Asked Refusal
-writing None digits = Err BadForm
-writing (Some (first, count)) digits = if all_digits digits then judged first count (length digits == 2 * count) (write first digits) else Err BadForm
+abbrev pub write_at : Option (ℕ × ℕ) → List ℕ → Result Asked Refusal
+write_at None digits = Err BadForm
+write_at (Some (first, count)) digits = if all_digits digits then judged first count (length digits == 2 * count) (write first digits) else Err BadForm
 
-abbrev pub written : Option (List ℕ × List ℕ) → Result Asked Refusal
-written None = Err BadForm
-written (Some (place, digits)) = writing (addresses place) digits
+abbrev pub write_from : Option (List ℕ × List ℕ) → Result Asked Refusal
+write_from None = Err BadForm
+write_from (Some (place, digits)) = write_at (addresses place) digits
 
 abbrev pub write_of : List ℕ → Result Asked Refusal
-write_of text = written (split_once (code ":") text)
+write_of text = write_from (split_once (code ":") text)
 
 -- a depth in two digits
 abbrev pub deep : Option ℕ → Result Asked Refusal
@@ -66,19 +66,19 @@ query payload =
 abbrev pub setting : List ℕ → Result Asked Refusal
 setting payload = if begins (codes "Qaisle.depth:") payload then deepened (drop 13 payload) else Ok unknown
 
--- a character that stands alone, or is no name
-abbrev pub alone : Asked → List ℕ → Asked
-alone asked [] = asked
-alone asked (c ∷ cs) = unknown
+-- a character that stands by_itself, or is no name
+abbrev pub by_itself : Asked → List ℕ → Asked
+by_itself asked [] = asked
+by_itself asked (c ∷ cs) = unknown
 
 -- what a payload asks for, by its first character and then by its name
 abbrev pub named : ℕ → List ℕ → List ℕ → Result Asked Refusal
 named c rest payload =
-    if c == code "?" then Ok (alone halted rest)
+    if c == code "?" then Ok (by_itself why_halted rest)
     else if c == code "m" then read_of rest
     else if c == code "M" then write_of rest
-    else if c == code "g" then Ok (alone registers rest)
-    else if c == code "D" then Ok (alone detach rest)
+    else if c == code "g" then Ok (by_itself registers rest)
+    else if c == code "D" then Ok (by_itself detach rest)
     else if c == code "H" then Ok thread
     else if c == code "q" then Ok (query payload)
     else if c == code "Q" then setting payload

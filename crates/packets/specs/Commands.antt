@@ -5,14 +5,14 @@ use Rattle.packets.specs.declared.command.Command.TheVariants as is
 
 -- what a payload asks for
 pub data Asked : Type 0 where
-  halted registers detach thread supported last_fault unknown : Asked
+  why_halted registers detach thread supported last_fault unknown : Asked
   read : (first count : ℕ) → Asked
   write : (first : ℕ) (digits : List ℕ) → Asked
   depth : ℕ → Asked
 
 -- what a command of the program is
 abbrev pub meant : declared.Command → Asked
-meant is.Halted = halted
+meant is.WhyHalted = why_halted
 meant (is.Read first count) = read first count
 meant (is.Write first digits) = write first digits.now
 meant is.Registers = registers

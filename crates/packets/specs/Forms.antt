@@ -5,7 +5,7 @@ use Rattle.std.specs.Result.{MatchResult}
 use Rattle.spaces.specs.declared.refusal.Refusal.{Refusal}
 use Rattle.spaces.specs.declared.refusal.Refusal.TheVariants.{BadForm, NoAddresses, WrongDigits, PastTheEnd}
 use Rattle.packets.specs.Digits.{digit, number, spelled}
-use Rattle.packets.specs.Commands.{Asked, halted, read, write, registers, detach, thread, supported, depth, last_fault, unknown}
+use Rattle.packets.specs.Commands.{Asked, why_halted, read, write, registers, detach, thread, supported, depth, last_fault, unknown}
 
 -- Payloads, in the protocol's words.
 
@@ -31,25 +31,26 @@ pub record Depth (text : List ℕ) (d : ℕ) : Type 0 where
 
 -- the payloads that have a name
 pub data Named : List ℕ → Type 0 where
-  named_question : Named (codes "?")
-  named_m : (text : List ℕ) → Named (code "m" ∷ text)
-  named_M : (text : List ℕ) → Named (code "M" ∷ text)
-  named_g : Named (codes "g")
-  named_D : Named (codes "D")
-  named_H : (text : List ℕ) → Named (code "H" ∷ text)
+  named_why : Named (codes "?")
+  named_read : (text : List ℕ) → Named (code "m" ∷ text)
+  named_write : (text : List ℕ) → Named (code "M" ∷ text)
+  named_registers : Named (codes "g")
+  named_detach : Named (codes "D")
+  named_thread : (text : List ℕ) → Named (code "H" ∷ text)
   named_supported : (text : List ℕ) → Named (codes "qSupported" ++ text)
   named_depth : (text : List ℕ) → Named (codes "Qaisle.depth:" ++ text)
   named_fault : Named (codes "qaisle.fault")
 
 -- what a payload asks for
 pub data Asks : List ℕ → Asked → Type 0 where
-  asks_why : Asks (codes "?") halted
-  asks_m : (text : List ℕ) (first count : ℕ) → Span text first count → 0 < count → first + count ≤ 2 ^ 64 → Asks (code "m" ∷ text) (read first count)
-  asks_M : (text : List ℕ) (first count : ℕ) (digits : List ℕ) → Bytes text first count digits → 0 < count → length digits ≡ 2 * count → first + count ≤ 2 ^ 64
+  asks_why : Asks (codes "?") why_halted
+  asks_read : (text : List ℕ) (first count : ℕ) → Span text first count → 0 < count → first + count ≤ 2 ^ 64
+      → Asks (code "m" ∷ text) (read first count)
+  asks_write : (text : List ℕ) (first count : ℕ) (digits : List ℕ) → Bytes text first count digits → 0 < count → length digits ≡ 2 * count → first + count ≤ 2 ^ 64
       → Asks (code "M" ∷ text) (write first digits)
-  asks_g : Asks (codes "g") registers
-  asks_D : Asks (codes "D") detach
-  asks_H : (text : List ℕ) → Asks (code "H" ∷ text) thread
+  asks_registers : Asks (codes "g") registers
+  asks_detach : Asks (codes "D") detach
+  asks_thread : (text : List ℕ) → Asks (code "H" ∷ text) thread
   asks_supported : (text : List ℕ) → Asks (codes "qSupported" ++ text) supported
   asks_depth : (text : List ℕ) (d : ℕ) → Depth text d → Asks (codes "Qaisle.depth:" ++ text) (depth d)
   asks_fault : Asks (codes "qaisle.fault") last_fault
@@ -57,14 +58,16 @@ pub data Asks : List ℕ → Asked → Type 0 where
 
 -- Why a payload is refused. Each reason leaves out those with a smaller number, so that a payload has one at most.
 pub data Wrong : List ℕ → Refusal → Type 0 where
-  m_form : (text : List ℕ) → ((first count : ℕ) → Span text first count → ⊥) → Wrong (code "m" ∷ text) BadForm
-  M_form : (text : List ℕ) → ((first count : ℕ) (digits : List ℕ) → Bytes text first count digits → ⊥) → Wrong (code "M" ∷ text) BadForm
+  read_form : (text : List ℕ) → ((first count : ℕ) → Span text first count → ⊥) → Wrong (code "m" ∷ text) BadForm
+  write_form : (text : List ℕ) → ((first count : ℕ) (digits : List ℕ) → Bytes text first count digits → ⊥) → Wrong (code "M" ∷ text) BadForm
   depth_form : (text : List ℕ) → ((d : ℕ) → Depth text d → ⊥) → Wrong (codes "Qaisle.depth:" ++ text) BadForm
-  m_none : (text : List ℕ) (first : ℕ) → Span text first 0 → Wrong (code "m" ∷ text) NoAddresses
-  M_none : (text : List ℕ) (first : ℕ) (digits : List ℕ) → Bytes text first 0 digits → Wrong (code "M" ∷ text) NoAddresses
-  M_digits : (text : List ℕ) (first count : ℕ) (digits : List ℕ) → Bytes text first count digits → 0 < count → length digits ≢ 2 * count → Wrong (code "M" ∷ text) WrongDigits
-  m_end : (text : List ℕ) (first count : ℕ) → Span text first count → 0 < count → 2 ^ 64 < first + count → Wrong (code "m" ∷ text) PastTheEnd
-  M_end : (text : List ℕ) (first count : ℕ) (digits : List ℕ) → Bytes text first count digits → 0 < count → length digits ≡ 2 * count → 2 ^ 64 < first + count
+  read_none : (text : List ℕ) (first : ℕ) → Span text first 0 → Wrong (code "m" ∷ text) NoAddresses
+  write_none : (text : List ℕ) (first : ℕ) (digits : List ℕ) → Bytes text first 0 digits → Wrong (code "M" ∷ text) NoAddresses
+  write_digits : (text : List ℕ) (first count : ℕ) (digits : List ℕ) → Bytes text first count digits → 0 < count → length digits ≢ 2 * count
+      → Wrong (code "M" ∷ text) WrongDigits
+  read_end : (text : List ℕ) (first count : ℕ) → Span text first count → 0 < count → 2 ^ 64 < first + count
+      → Wrong (code "m" ∷ text) PastTheEnd
+  write_end : (text : List ℕ) (first count : ℕ) (digits : List ℕ) → Bytes text first count digits → 0 < count → length digits ≡ 2 * count → 2 ^ 64 < first + count
       → Wrong (code "M" ∷ text) PastTheEnd
 
 -- what the answer says of a payload, and that it is the only one that fits

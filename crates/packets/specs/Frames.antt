@@ -1,4 +1,4 @@
-use Rattle.std.specs.Prelude.{◌≡◌, ℕ, ◌+◌, ◌%◌, Bool, cond, List, ◌++◌, length, drop, codes, Some, None, Option, nat_le}
+use Rattle.std.specs.Prelude.{◌≡◌, ℕ, ◌+◌, ◌%◌, Bool, if◌then◌else◌, List, ◌++◌, length, drop, codes, Some, None, Option, nat_le}
 use Rattle.std.specs.List.{sum}
 use Rattle.packets.specs.Digits.{digits}
 
@@ -14,8 +14,9 @@ framed payload = codes "$" ++ (payload ++ (codes "#" ++ digits 2 (checksum paylo
 abbrev pub has_frame : List ℕ → Bool
 has_frame payload = nat_le (length payload) 4096
 
--- what writing a payload's frame into a reply buffer answers and leaves: its length and the frame in front of the buffer,
--- whose rest is as it was; or none, and the buffer as it was
+-- what writing a payload's frame into a reply buffer of 4,100 bytes answers and leaves: its length and the frame in front of
+-- the buffer, whose rest is as it was; or none, and the buffer as it was
 pub record Frames (payload before after : List ℕ) (r : Option ℕ) : Type 0 where
-  pub how_many : r ≡ cond (has_frame payload) (Some (length payload + 4)) None
-  pub buffer : after ≡ cond (has_frame payload) (framed payload ++ drop (length payload + 4) before) before
+  pub room : length after ≡ 4100
+  pub how_many : r ≡ (if has_frame payload then Some (length payload + 4) else None)
+  pub buffer : after ≡ (if has_frame payload then framed payload ++ drop (length payload + 4) before else before)

@@ -17,14 +17,14 @@ closed payload (c ∷ []) = unfinished
 closed payload (high ∷ low ∷ rest) = weighed payload (spelled 0 (high ∷ low ∷ []))
 
 -- a frame, by what there is behind its `$`, and the same split at its first `#`
-abbrev pub opened : List ℕ → Option (List ℕ × List ℕ) → Heard
-opened bytes None = if has_frame bytes then unfinished else no_end
-opened bytes (Some (payload, rest)) = if has_frame payload then closed payload rest else no_end
+abbrev pub parted : List ℕ → Option (List ℕ × List ℕ) → Heard
+parted bytes None = if has_frame bytes then unfinished else no_end
+parted bytes (Some (payload, rest)) = if has_frame payload then closed payload rest else no_end
 
-abbrev pub begun : List ℕ → Heard
-begun bytes = opened bytes (split_once (code "#") bytes)
+abbrev pub opened : List ℕ → Heard
+opened bytes = parted bytes (split_once (code "#") bytes)
 
 -- what is heard first in the bytes received
 abbrev pub heard : List ℕ → Heard
 heard [] = unfinished
-heard (c ∷ bytes) = if c == code "$" then begun bytes else if c == code "-" then resend else ignored
+heard (c ∷ bytes) = if c == code "$" then opened bytes else if c == code "-" then resend else ignored

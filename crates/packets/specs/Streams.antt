@@ -32,19 +32,25 @@ pub data Begins : List ℕ → Heard → List ℕ → Type 0 where
   good : (payload : List ℕ) (high low : ℕ) (rest : List ℕ) → IsPayload payload → spelled 0 (high ∷ low ∷ []) ≡ Some (checksum payload)
       → Begins (enclosed payload (high ∷ low ∷ rest)) (packet payload) rest
 
--- What hearing says of the bytes received: they begin with the item, and with no other; it uses at most these bytes, and what
--- comes behind them changes nothing. Nor does what comes behind the item, unless it is a `$` with no end in sight.
+-- What hearing says of the bytes received: they begin with the item and with no other, and it uses at most these bytes. Where
+-- it is not `unfinished`, more bytes behind change neither it nor where it ends; and unless it is `no_end`, its own bytes decide
+-- it alone.
 pub record Hears (received : List ℕ) (item : Heard) : Type 0 where
   pub within : (said item).used ≤ length received
   pub begins : Begins received item (drop (said item).used received)
-  pub only : (other : Heard) (rest : List ℕ) → Begins received other rest → (other ≡ item) × (rest ≡ drop (said item).used received)
+  pub only : (another : Heard) (rest : List ℕ) → Begins received another rest → (another ≡ item) × (rest ≡ drop (said item).used received)
   pub settled : item ≢ unfinished → (more : List ℕ) → Begins (received ++ more) item (drop (said item).used received ++ more)
   pub alone : item ≢ unfinished → item ≢ no_end → (more : List ℕ) → Begins (take (said item).used received ++ more) item more
+
+-- n bytes in front of a buffer are heard as a payload, whatever comes behind them
+abbrev pub HeardBack : List ℕ → List ℕ → ℕ → Type 0
+HeardBack payload buffer n = NoHash payload → (more : List ℕ) → Hears (take n buffer ++ more) (packet payload)
 
 -- a stream is these items, one behind the other, and then nothing whole
 pub data Runs : List ℕ → List Heard → List ℕ → Type 0 where
   ends : (rest : List ℕ) → Begins rest unfinished rest → Runs rest [] rest
-  goes_on : (stream left rest : List ℕ) (item : Heard) (items : List Heard) → item ≢ unfinished → Begins stream item left → Runs left items rest → Runs stream (item ∷ items) rest
+  goes_on : (stream left rest : List ℕ) (item : Heard) (items : List Heard) → item ≢ unfinished → Begins stream item left → Runs left items rest
+      → Runs stream (item ∷ items) rest
 
 -- all that some items use
 abbrev pub used_by : List Heard → ℕ

@@ -1,4 +1,4 @@
-// The commands that have more than a name, each by what stands behind its first character.
+// Commands with arguments, by what stands behind `m` or `M`, and names that begin with `q` or `Q`.
 
 ghost use Rattle.std.specs.Prelude.{◌≡◌, ◌+◌, None, Ok};
 ghost use Rattle.std.specs.Option.{option_map};
@@ -25,7 +25,7 @@ fn all_digits(text: &[u8]) -> bool
     text.iter().all(|c| c.is_ascii_hexdigit())
 }
 
-// No address is above 2^64 - 1.
+// Refused where the last address is above 2^64 - 1.
 fn within(first: u64, count: u64) -> Result<(), Refusal>
     ensures { result ≡ outcome (ending (first + count) None) }
 {

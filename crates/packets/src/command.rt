@@ -10,14 +10,14 @@ use spaces::Refusal;
 #[derive(Clone, Copy, Debug, PartialEq, Eq)]
 pub enum Command<'a> {
     // `?`: why the target halted.
-    Halted,
+    WhyHalted,
     // `m`: the bytes of so many addresses.
     Read { first: u64, count: u64 },
     // `M`: bytes are patched, each by two digits.
     Write { first: u64, digits: &'a [u8] },
     // `g`: the registers.
     Registers,
-    // `D`: the debugger goes.
+    // `D`: the debugger detaches.
     Detach,
     // `H`: a thread is chosen.
     Thread,
@@ -39,7 +39,7 @@ fn asked(payload: &[u8]) -> Result<Command<'_>, Refusal>
         return Ok(Command::Unknown);
     };
     match char::from(*first) {
-        '?' if rest.is_empty() => Ok(Command::Halted),
+        '?' if rest.is_empty() => Ok(Command::WhyHalted),
         'm' => read(rest),
         'M' => write(rest),
         'g' if rest.is_empty() => Ok(Command::Registers),

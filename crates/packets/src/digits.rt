@@ -1,6 +1,7 @@
 // Hexadecimal digits: of either case in, lower case out.
 
-ghost use Rattle.std.specs.Prelude.{◌≡◌, ◌*◌, ◌/◌, ◌^◌, ◌<◌, ◌≤◌, length, take, Some, IfSome};
+ghost use Rattle.std.specs.Prelude.{◌≡◌, ◌*◌, ◌/◌, ◌^◌, ◌<◌, ◌≤◌, length, map, take, Some, IfSome};
+ghost use Rattle.std.specs.Char.{to_ascii_lowercase};
 ghost use Rattle.packets.specs.Digits.{digit, lower, spelled, digits, number, paired, Places, Spells};
 
 fn digit(c: u8) -> Option<u8>
@@ -15,8 +16,7 @@ fn digit(c: u8) -> Option<u8>
     }
 }
 
-// The number in 1 to 16 digits.
-pub fn number(digits: &[u8]) -> Option<u64>
+fn number_in(digits: &[u8]) -> Option<u64>
     ensures { result ≡ number digits.now }
 {
     if digits.is_empty() || digits.len() > 16 {
@@ -27,6 +27,14 @@ pub fn number(digits: &[u8]) -> Option<u64>
         number = number * 16 + digit(*c)? as u64;
     }
     Some(number)
+}
+
+// The number in 1 to 16 digits.
+pub fn number(digits: &[u8]) -> Option<u64>
+    ensures is { result ≡ number digits.now }
+    ensures either_case { result ≡ number (map to_ascii_lowercase digits.now) }
+{
+    number_in(digits)
 }
 
 // The byte in two digits.
@@ -74,7 +82,7 @@ pub fn spell(bytes: &[u8], out: &mut [u8]) -> usize
     2 * count
 }
 
-// The bytes in pairs of digits, up to the first pair that is none, as many as the buffer has room for: how many.
+// The bytes in pairs of digits, up to the first pair that is not two digits, as many as the buffer has room for: how many.
 pub fn bytes(digits: &[u8], out: &mut [u8]) -> usize
     ensures { Places (paired digits.now) out.old out.new result }
 {

@@ -1,11 +1,10 @@
-ghost use Rattle.std.specs.Prelude.{◌≡◌, ℕ, List, ◌++◌, take, IfSome};
+ghost use Rattle.std.specs.Prelude.{◌≡◌, IfSome};
 ghost use Rattle.packets.specs.Frames.{checksum, Frames};
-ghost use Rattle.packets.specs.Items.{packet};
-ghost use Rattle.packets.specs.Streams.{NoHash, Hears};
+ghost use Rattle.packets.specs.Streams.{HeardBack};
 
 use crate::digits;
 
-// How many bytes a payload has at most, and the buffer that its frame fits in.
+// How many bytes a payload has at most, and how large a buffer its frame fits in.
 pub const PAYLOAD: usize = 4_096;
 
 pub const REPLY: usize = PAYLOAD + 4;
@@ -20,7 +19,7 @@ pub(crate) fn checksum(payload: &[u8]) -> u8
 // Writes a payload's frame: how many bytes it has, or none where the payload is too long.
 pub fn frame(payload: &[u8], reply: &mut [u8; REPLY]) -> Option<usize>
     ensures is { Frames payload.now reply.old reply.new result }
-    ensures heard_back { IfSome result (λ n. NoHash payload.now → (more : List ℕ) → Hears (take n reply.new ++ more) (packet payload.now)) }
+    ensures heard_back { IfSome result (HeardBack payload.now reply.new) }
 {
     if payload.len() > PAYLOAD {
         return None;

@@ -1,6 +1,6 @@
 ghost use Rattle.std.specs.Prelude.{◌≡◌};
 ghost use Rattle.packets.specs.Items.{meant};
-ghost use Rattle.packets.specs.Hearing.{closed, begun, heard};
+ghost use Rattle.packets.specs.Hearing.{closed, opened, heard};
 ghost use Rattle.packets.specs.Streams.{Hears};
 
 use crate::digits::byte;
@@ -26,7 +26,7 @@ fn closed<'a>(payload: &'a [u8], rest: &[u8]) -> Item<'a>
 
 // A frame, by what there is behind its `$`.
 fn opened(bytes: &[u8]) -> Item<'_>
-    ensures { meant result ≡ begun bytes.now }
+    ensures { meant result ≡ opened bytes.now }
 {
     match split_once(bytes, b'#') {
         Some((payload, rest)) if payload.len() <= PAYLOAD => closed(payload, rest),

@@ -53,7 +53,7 @@ fn tell_refusal(rt: &HostRuntime, refusal: Option<Refusal>) -> io::Result<()> {
 fn tell_command(rt: &HostRuntime, asked: Result<Command<'_>, Refusal>) -> io::Result<()> {
     match asked {
         Err(refusal) => println!(rt; ": refused {refusal}"),
-        Ok(Command::Halted) => println!(rt; ": why it halted"),
+        Ok(Command::WhyHalted) => println!(rt; ": why it halted"),
         Ok(Command::Read { first, count }) => println!(rt; ": read of {count} at {first:016x}"),
         Ok(Command::Write { first, digits }) => tell_write(rt, first, digits),
         Ok(Command::Registers) => println!(rt; ": the registers"),

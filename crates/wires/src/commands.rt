@@ -30,7 +30,7 @@ fn all_answer(rt: &impl Abort, lines: &[&str], expected: Result<Command, u8>) {
 #[test]
 fn payloads_ask_for_commands(rt: HostRuntime) {
     let cases = [
-        ("?", Command::Halted),
+        ("?", Command::WhyHalted),
         ("g", Command::Registers),
         ("D", Command::Detach),
         ("H|Hg0|Hc-1", Command::Thread),

@@ -1,6 +1,6 @@
 use Rattle.std.proofs.Common.{◌≡◌, ◌*◌, ◌^◌, ◌<◌, drop}
 use Rattle.packets.specs.Digits.{spelled}
-use Rattle.packets.proofs.digits.number.Given as goal
+use Rattle.packets.proofs.digits.number_in.Given as goal
 
 -- what is left is spelled behind the digits read
 abbrev pub invariant-loop-c : goal.invariant-loop-c
