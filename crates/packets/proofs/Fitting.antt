@@ -63,15 +63,20 @@ write_fits : (text : List ℕ) (w : Option (List ℕ × List ℕ)) → split_onc
 write_fits text None e = write_form text (λ first count ds b. let t = (bytes_found text first count ds b).1 in cc)
 write_fits text (Some (front, digits)) e = write_at_fits text front digits e (addresses front) refl
 
+-- a test, by what follows from each outcome
+by_test : {X : Type 0} (P : X → Type 0) (t : Bool) (x y : X) → (t ≡ true → P x) → (t ≡ false → P y) → P (if t then x else y)
+by_test P true x y h k = h refl
+by_test P false x y h k = k refl
+
 -- no payload that has a name is answered as one without
 
-chosen : (t : Bool) (x y : Result Asked Refusal) → x ≢ Ok unknown → y ≢ Ok unknown → (if t then x else y) ≢ Ok unknown
-chosen true x y h k = h
-chosen false x y h k = k
+abbrev IsKnown : Result Asked Refusal → Type 0
+IsKnown answer = answer ≢ Ok unknown
 
 judged_known : (first count : ℕ) (fits : Bool) (a : Asked) → a ≢ unknown → judged first count fits a ≢ Ok unknown
 judged_known first count fits a h =
-    chosen (count == 0) (Err NoAddresses) _ (λ e. cc) (chosen fits _ (Err WrongDigits) (chosen (nat_lt (2 ^ 64) (first + count)) (Err PastTheEnd) (Ok a) (λ e. cc) (λ e. h cc)) (λ e. cc))
+    by_test IsKnown (count == 0) (Err NoAddresses) _ (λ p e. cc)
+    (λ p. by_test IsKnown fits _ (Err WrongDigits) (λ q. by_test IsKnown (nat_lt (2 ^ 64) (first + count)) (Err PastTheEnd) (Ok a) (λ r e. cc) (λ r e. h cc)) (λ q e. cc))
 
 read_known : (w : Option (ℕ × ℕ)) → read_at w ≢ Ok unknown
 read_known None e = cc
@@ -80,7 +85,7 @@ read_known (Some (first, count)) e = judged_known first count true (read first c
 write_at_known : (w : Option (ℕ × ℕ)) (digits : List ℕ) → write_at w digits ≢ Ok unknown
 write_at_known None digits e = cc
 write_at_known (Some (first, count)) digits e =
-    chosen (all_digits digits) _ (Err BadForm) (judged_known first count (length digits == 2 * count) (write first digits) (λ e. cc)) (λ e. cc) e
+    by_test IsKnown (all_digits digits) _ (Err BadForm) (λ p. judged_known first count (length digits == 2 * count) (write first digits) (λ e. cc)) (λ p e. cc) e
 
 write_known : (w : Option (List ℕ × List ℕ)) → write_from w ≢ Ok unknown
 write_known None e = cc
@@ -91,7 +96,7 @@ deep_known None e = cc
 deep_known (Some d) e = cc
 
 deepened_known : (text : List ℕ) → deepened text ≢ Ok unknown
-deepened_known text = chosen (length text == 2) (deep (spelled 0 text)) (Err BadForm) (deep_known (spelled 0 text)) (λ e. cc)
+deepened_known text = by_test IsKnown (length text == 2) (deep (spelled 0 text)) (Err BadForm) (λ p. deep_known (spelled 0 text)) (λ p e. cc)
 
 known : (payload : List ℕ) → Named payload → asked payload ≢ Ok unknown
 known payload named_why e = cc
@@ -110,17 +115,8 @@ nameless payload e = asks_other payload (λ n. known payload n e)
 begins_is : (name payload : List ℕ) → begins name payload ≡ true → payload ≡ name ++ drop (length name) payload
 begins_is name payload h = let e = (bytes_eq-Decides (take (length name) payload) name).0 h in subst (λ xs. payload ≡ xs ++ drop (length name) payload) e (sym (take-append-drop (length name) payload))
 
--- a test, by what follows from each outcome
-if_fits : (payload : List ℕ) (t : Bool) (x y : Result Asked Refusal) → (t ≡ true → Fits payload x) → (t ≡ false → Fits payload y) → Fits payload (if t then x else y)
-if_fits payload true x y h k = h refl
-if_fits payload false x y h k = k refl
-
-if_asks : (payload : List ℕ) (t : Bool) (a b : Asked) → (t ≡ true → Asks payload a) → (t ≡ false → Asks payload b) → Asks payload (if t then a else b)
-if_asks payload true a b h k = h refl
-if_asks payload false a b h k = k refl
-
 deepened_fits : (text : List ℕ) → Fits (codes "Qaisle.depth:" ++ text) (deepened text)
-deepened_fits text = if_fits (codes "Qaisle.depth:" ++ text) (length text == 2) (deep (spelled 0 text)) (Err BadForm)
+deepened_fits text = by_test (Fits (codes "Qaisle.depth:" ++ text)) (length text == 2) (deep (spelled 0 text)) (Err BadForm)
     (λ e. step (grind (arith, nat_tests)) (spelled 0 text) refl)
     (λ e. depth_form text (λ d t. grind (arith, nat_tests)))
   where
@@ -129,14 +125,14 @@ deepened_fits text = if_fits (codes "Qaisle.depth:" ++ text) (length text == 2) 
     step h (Some d) e = asks_depth text d (record { two = h; is = e })
 
 query_fits : (rest : List ℕ) → Fits (code "q" ∷ rest) (Ok (query (code "q" ∷ rest)))
-query_fits rest = if_asks (code "q" ∷ rest) (bytes_eq (code "q" ∷ rest) (codes "qaisle.fault")) last_fault _
+query_fits rest = by_test (Asks (code "q" ∷ rest)) (bytes_eq (code "q" ∷ rest) (codes "qaisle.fault")) last_fault _
     (λ e. rw ((bytes_eq-Decides (code "q" ∷ rest) (codes "qaisle.fault")).0 e) asks_fault)
-    (λ e. if_asks (code "q" ∷ rest) (begins (codes "qSupported") (code "q" ∷ rest)) supported unknown
+    (λ e. by_test (Asks (code "q" ∷ rest)) (begins (codes "qSupported") (code "q" ∷ rest)) supported unknown
     (λ f. subst (λ p. Asks p supported) (sym (begins_is (codes "qSupported") (code "q" ∷ rest) f)) (asks_supported (drop 10 (code "q" ∷ rest))))
     (λ f. nameless (code "q" ∷ rest) (rw (e, f) refl)))
 
 setting_fits : (rest : List ℕ) → Fits (code "Q" ∷ rest) (setting (code "Q" ∷ rest))
-setting_fits rest = if_fits (code "Q" ∷ rest) (begins (codes "Qaisle.depth:") (code "Q" ∷ rest)) (deepened (drop 13 (code "Q" ∷ rest))) (Ok unknown)
+setting_fits rest = by_test (Fits (code "Q" ∷ rest)) (begins (codes "Qaisle.depth:") (code "Q" ∷ rest)) (deepened (drop 13 (code "Q" ∷ rest))) (Ok unknown)
     (λ e. subst (λ p. Fits p (deepened (drop 13 (code "Q" ∷ rest)))) (sym (begins_is (codes "Qaisle.depth:") (code "Q" ∷ rest) e)) (deepened_fits (drop 13 (code "Q" ∷ rest))))
     (λ e. nameless (code "Q" ∷ rest) (rw e refl))
 
@@ -147,14 +143,14 @@ by_itself_fits c a (x ∷ xs) h k = nameless (c ∷ x ∷ xs) (k x xs)
 pub fits : (payload : List ℕ) → Fits payload (asked payload)
 fits [] = nameless [] refl
 fits (c ∷ rest) =
-    if_fits (c ∷ rest) (c == code "?") _ _ (λ e. rw (same c (code "?") e) (by_itself_fits (code "?") why_halted rest asks_why (λ x xs. refl)))
-    (λ n1. if_fits (c ∷ rest) (c == code "m") _ _ (λ e. rw (same c (code "m") e) (read_fits rest (addresses rest) refl))
-    (λ n2. if_fits (c ∷ rest) (c == code "M") _ _ (λ e. rw (same c (code "M") e) (write_fits rest (split_once (code ":") rest) refl))
-    (λ n3. if_fits (c ∷ rest) (c == code "g") _ _ (λ e. rw (same c (code "g") e) (by_itself_fits (code "g") registers rest asks_registers (λ x xs. refl)))
-    (λ n4. if_fits (c ∷ rest) (c == code "D") _ _ (λ e. rw (same c (code "D") e) (by_itself_fits (code "D") detach rest asks_detach (λ x xs. refl)))
-    (λ n5. if_fits (c ∷ rest) (c == code "H") _ _ (λ e. rw (same c (code "H") e) (asks_thread rest))
-    (λ n6. if_fits (c ∷ rest) (c == code "q") _ _ (λ e. rw (same c (code "q") e) (query_fits rest))
-    (λ n7. if_fits (c ∷ rest) (c == code "Q") _ _ (λ e. rw (same c (code "Q") e) (setting_fits rest))
+    by_test (Fits (c ∷ rest)) (c == code "?") _ _ (λ e. rw (same c (code "?") e) (by_itself_fits (code "?") why_halted rest asks_why (λ x xs. refl)))
+    (λ n1. by_test (Fits (c ∷ rest)) (c == code "m") _ _ (λ e. rw (same c (code "m") e) (read_fits rest (addresses rest) refl))
+    (λ n2. by_test (Fits (c ∷ rest)) (c == code "M") _ _ (λ e. rw (same c (code "M") e) (write_fits rest (split_once (code ":") rest) refl))
+    (λ n3. by_test (Fits (c ∷ rest)) (c == code "g") _ _ (λ e. rw (same c (code "g") e) (by_itself_fits (code "g") registers rest asks_registers (λ x xs. refl)))
+    (λ n4. by_test (Fits (c ∷ rest)) (c == code "D") _ _ (λ e. rw (same c (code "D") e) (by_itself_fits (code "D") detach rest asks_detach (λ x xs. refl)))
+    (λ n5. by_test (Fits (c ∷ rest)) (c == code "H") _ _ (λ e. rw (same c (code "H") e) (asks_thread rest))
+    (λ n6. by_test (Fits (c ∷ rest)) (c == code "q") _ _ (λ e. rw (same c (code "q") e) (query_fits rest))
+    (λ n7. by_test (Fits (c ∷ rest)) (c == code "Q") _ _ (λ e. rw (same c (code "Q") e) (setting_fits rest))
     (λ n8. nameless (c ∷ rest) (rw (n1, n2, n3, n4, n5, n6, n7, n8) refl)))))))))
   where
     same : (a b : ℕ) → (a == b) ≡ true → a ≡ b

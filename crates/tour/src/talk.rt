@@ -39,15 +39,16 @@ fn tell_item(rt: &HostRuntime, item: Item<'_>) -> io::Result<()> {
         }
         Item::Resend => println!(rt; "the latest reply is asked for again"),
         Item::Ignored => println!(rt; "ignored"),
-        Item::WrongSum { .. } | Item::NoEnd | Item::Unfinished => tell_refusal(rt, item.refusal()),
+        Item::Unfinished => println!(rt; "unfinished"),
+        Item::WrongSum { .. } | Item::NoEnd => tell_refusal(rt, item.refusal()),
     }
 }
 
 fn tell_refusal(rt: &HostRuntime, refusal: Option<Refusal>) -> io::Result<()> {
-    match refusal {
-        Some(refusal) => println!(rt; "refused {refusal}"),
-        None => println!(rt; "unfinished"),
+    if let Some(refusal) = refusal {
+        print!(rt; "refused {refusal}")?;
     }
+    println!(rt; "")
 }
 
 fn tell_command(rt: &HostRuntime, asked: Result<Command<'_>, Refusal>) -> io::Result<()> {
