@@ -1,9 +1,10 @@
 use Prim.Native.Char.{code}
-use Rattle.std.proofs.Common.{◌≡◌, ◌≢◌, ℕ, ◌+◌, ◌/◌, ◌%◌, ◌≤◌, List, [], ◌∷◌, ◌++◌, length, take, drop, Some, None, Option, Bool, true, false, if◌then◌else◌, cond, zero, suc, ◌==◌, refl, sym, subst, ◌∙◌, ap, arith}
+use Rattle.std.proofs.Common.{◌≡◌, ◌≢◌, ℕ, ◌+◌, ◌/◌, ◌%◌, ◌≤◌, List, [], ◌∷◌, ◌++◌, length, take, drop, Some, None, Option, Bool, true, false, if◌then◌else◌, suc, ◌==◌, refl, sym, subst, ◌∙◌, ap, ◌<◌, min, inl, inr, arith}
+use Rattle.std.proofs.lemmas.Bool.{cases_lt}
 use Rattle.std.proofs.lemmas.Bool.Decides.{nat_tests}
-use Rattle.std.proofs.lemmas.List.{append_assoc, append-nil, length-append, length-take, take-append-drop, take_at, drop_at}
+use Rattle.std.proofs.lemmas.List.{append_assoc, append-nil, length-append, length-take, take-append-drop, take_at, take_all, drop_at}
 use Rattle.packets.specs.Digits.{lower, digits, spelled}
-use Rattle.packets.specs.Splits.{split_once, Lacks}
+use Rattle.packets.specs.Splits.{split_once}
 use Rattle.packets.specs.Frames.{checksum, framed, has_frame, Frames}
 use Rattle.packets.specs.Items.{Heard, unfinished, resend, ignored, wrong_sum, no_end, packet, said}
 use Rattle.packets.specs.Hearing.{weighed, closed, parted, heard}
@@ -132,14 +133,37 @@ alone s item rest more (wrong payload high low r p l) n m = rw (front_of_frame p
 alone s item rest more (endless bytes r h k) n m = absurd (m refl)
 alone s item rest more (good payload high low r p l) n m = rw (front_of_frame payload r high low, append_assoc payload (code "#" ∷ high ∷ low ∷ []) more) (good payload high low more p l)
 
+-- what is unfinished is short
+short : (s : List ℕ) (item : Heard) (rest : List ℕ) → Begins s item rest → item ≡ unfinished → length s < 4100
+short s item rest nothing e = omega arith
+short s item rest (no_hash_yet bytes p) e = omega (arith, p.1)
+short s item rest (no_digits_yet payload digits p l) e = omega (arith, p.1, length-append payload (code "#" ∷ digits))
+short s item rest (minus r) e = cc
+short s item rest (other b r h k) e = cc
+short s item rest (wrong payload high low r p l) e = cc
+short s item rest (endless bytes r h k) e = cc
+short s item rest (good payload high low r p l) e = cc
+
 pub hears : (s : List ℕ) → Hears s (heard s)
 hears s = let t = heard_at_head s in record {
   within = t.within;
   begins = t.begins;
   only = λ other rest b. let e = sym (heard_is s other rest b) in (e, rest_is s other rest b ∙ ap (λ i. drop (said i).used s) e);
   settled = λ n more. settled s (heard s) (drop (said (heard s)).used s) more t.begins n;
+  enough = λ h e. let k = short s (heard s) (drop (said (heard s)).used s) t.begins e in omega (arith, k);
   alone = λ n m more. alone s (heard s) (drop (said (heard s)).used s) more t.begins n m;
 }
+
+-- the first 4,100 bytes decide
+pub heard_near : (s : List ℕ) (n : ℕ) → n ≡ min (length s) 4100 → heard (take n s) ≡ heard s
+heard_near s n e = elim (cases_lt (length s) 4100) [
+  | inl h ↦ ap heard (take_all n s (omega (arith, e)))
+  | inr h ↦
+      let t = hears (take n s) in
+      let left = drop (said (heard (take n s))).used (take n s) ++ drop n s in
+      let b = t.settled (t.enough (omega (arith, e, length-take n s))) (drop n s) in
+      sym (heard_is s (heard (take n s)) left (subst (λ xs. Begins xs (heard (take n s)) left) (take-append-drop n s) b))
+]
 
 -- a payload's frame is heard as the payload, whatever comes behind it
 pub framed_heard : (payload more : List ℕ) → IsPayload payload → Hears (framed payload ++ more) (packet payload)

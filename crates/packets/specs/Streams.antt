@@ -34,12 +34,13 @@ pub data Begins : List ℕ → Heard → List ℕ → Type 0 where
 
 -- What hearing says of the bytes received: they begin with the item and with no other, and it uses at most these bytes. Where
 -- it is not `unfinished`, more bytes behind change neither it nor where it ends; and unless it is `no_end`, its own bytes decide
--- it alone.
+-- it alone. Of 4,100 bytes some are always an item.
 pub record Hears (received : List ℕ) (item : Heard) : Type 0 where
   pub within : (said item).used ≤ length received
   pub begins : Begins received item (drop (said item).used received)
   pub only : (another : Heard) (rest : List ℕ) → Begins received another rest → (another ≡ item) × (rest ≡ drop (said item).used received)
   pub settled : item ≢ unfinished → (more : List ℕ) → Begins (received ++ more) item (drop (said item).used received ++ more)
+  pub enough : 4100 ≤ length received → item ≢ unfinished
   pub alone : item ≢ unfinished → item ≢ no_end → (more : List ℕ) → Begins (take (said item).used received ++ more) item more
 
 -- n bytes in front of a buffer are heard as a payload, whatever comes behind them

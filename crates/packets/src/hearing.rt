@@ -4,7 +4,7 @@ ghost use Rattle.packets.specs.Hearing.{closed, opened, heard};
 ghost use Rattle.packets.specs.Streams.{Hears};
 
 use crate::digits::byte;
-use crate::framing::{PAYLOAD, checksum};
+use crate::framing::{PAYLOAD, REPLY, checksum};
 use crate::item::Item;
 use crate::split::split_once;
 
@@ -46,10 +46,10 @@ fn heard(received: &[u8]) -> Item<'_>
     }
 }
 
-// What is heard first in the bytes received.
+// What is heard first in the bytes received: the longest frame has 4,100.
 pub fn hear(received: &[u8]) -> Item<'_>
     ensures is { meant result ≡ heard received.now }
     ensures in_words { Hears received.now (meant result) }
 {
-    heard(received)
+    heard(&received[..received.len().min(REPLY)])
 }

@@ -13,8 +13,8 @@ use std::{fs, io};
 use talk::hear_talk;
 use tell::{list, tell_byte, tell_clear, tell_fill, tell_load, tell_set};
 
-// One task from beginning to end: dumps are loaded, listed, read, walked and patched, and refused where they are damaged; what
-// GDB sends is heard.
+// One task from beginning to end: dumps are loaded, listed, read, walked and patched, and refused where they are damaged;
+// what GDB sends is heard.
 fn main(rt: HostRuntime) -> io::Result<()> {
     read_aisle(&rt)?;
     walk_aisle(&rt)?;
