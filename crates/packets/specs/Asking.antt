@@ -25,6 +25,7 @@ judged first count fits asked =
     else if fits then (if nat_lt (2 ^ 64) (first + count) then Err PastTheEnd else Ok asked)
     else Err WrongDigits
 
+-- what stands behind `m`, by its address and number
 abbrev pub read_at : Option (ℕ × ℕ) → Result Asked Refusal
 read_at None = Err BadForm
 read_at (Some (first, count)) = judged first count true (read first count)
@@ -32,6 +33,7 @@ read_at (Some (first, count)) = judged first count true (read first count)
 abbrev pub read_of : List ℕ → Result Asked Refusal
 read_of text = read_at (addresses text)
 
+-- what stands behind `M`, by its address and number before the colon and its digits behind it
 abbrev pub all_digits : List ℕ → Bool
 all_digits cs = list_all (λ c. is_some (digit c)) cs
 
@@ -54,6 +56,7 @@ deep (Some d) = Ok (depth d)
 abbrev pub deepened : List ℕ → Result Asked Refusal
 deepened digits = if length digits == 2 then deep (spelled 0 digits) else Err BadForm
 
+-- names that begin with `q` or `Q`
 abbrev pub begins : List ℕ → List ℕ → Bool
 begins name payload = bytes_eq (take (length name) payload) name
 

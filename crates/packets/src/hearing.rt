@@ -46,7 +46,7 @@ fn heard(received: &[u8]) -> Item<'_>
     }
 }
 
-// What is heard first in the bytes received: the longest frame has 4,100.
+// What is heard first in the bytes received. The longest frame has 4,100.
 pub fn hear(received: &[u8]) -> Item<'_>
     ensures is { meant result ≡ heard received.now }
     ensures in_words { Hears received.now (meant result) }
