@@ -1,4 +1,5 @@
 use packets::{Item, REPLY, frame, hear};
+use std::process::Abort;
 
 // Frames as GDB's logs and manual have them, and some whose sums are the least and the greatest.
 #[test]
@@ -32,6 +33,30 @@ fn payloads_are_framed(rt: HostRuntime) {
         let length = frame(payload, &mut reply);
         assert_eq!(rt; (length, reply), (Some(framed.len()), expected));
     }
+}
+
+// Frames as GDB sent them behind `$`, with a bar between each and the next: the same is written, and heard.
+fn gdb_sends(rt: &impl Abort, line: &str) {
+    for text in line.split('|') {
+        let (payload, _) = text.split_once('#').unwrap_or(("", text));
+        let payload = payload.as_bytes();
+        let mut reply = [b'.'; REPLY];
+        let length = frame(payload, &mut reply).unwrap_or(0);
+        let (front, _) = reply.split_at(length);
+        assert_eq!(rt; front.strip_prefix(b"$"), Some(text.as_bytes()));
+        assert_eq!(rt; hear(&reply), Item::Packet { payload });
+    }
+}
+
+// What GDB 13.1 sent when it connected to a stub, read, patched a byte, asked for the last fault and detached.
+#[test]
+fn frames_of_gdb(rt: HostRuntime) {
+    gdb_sends(&rt, "vMustReplyEmpty#3a|Hg0#df|qTStatus#49");
+    gdb_sends(&rt, "?#3f|qfThreadInfo#bb|Hc-1#09|qC#b4");
+    gdb_sends(&rt, "qL1200000000000000000#50|qAttached#8f");
+    gdb_sends(&rt, "g#67|m0,1#fa|m0,9#02|mffc,1#f9");
+    gdb_sends(&rt, "m1000,1#8b|X1000,0:#af|M1000,1:5a#3b");
+    gdb_sends(&rt, "qaisle.fault#c9|Qaisle.depth:02#3e|D#44");
 }
 
 #[test]
