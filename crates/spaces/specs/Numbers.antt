@@ -2,7 +2,7 @@ use Rattle.std.specs.Prelude.{ℕ, Ok, Err, Result}
 use Rattle.spaces.specs.declared.cause.Cause.{Cause}
 use Rattle.spaces.specs.declared.cause.Cause.TheVariants.{NoExtent, NotStored}
 use Rattle.spaces.specs.declared.refusal.Refusal.{Refusal}
-use Rattle.spaces.specs.declared.refusal.Refusal.TheVariants.{WrongSum, NoEnd, BadForm, NoAddresses, WrongDigits, PastTheEnd, NoOverlay, TooManyPatches, HeaderCut, BadHeader, Overlap, TableFull}
+use Rattle.spaces.specs.declared.refusal.Refusal.TheVariants.{WrongSum, NoEnd, BadForm, NoAddresses, WrongDigits, PastTheEnd, NoOverlay, TooManyPatches, HeaderCut, BadHeader, Overlap, TableFull, BadLength, BadRecord}
 
 -- the number of a cause
 abbrev pub cause_number : Cause → ℕ
@@ -23,6 +23,8 @@ refusal_number HeaderCut = 0x30
 refusal_number BadHeader = 0x31
 refusal_number Overlap = 0x34
 refusal_number TableFull = 0x35
+refusal_number BadLength = 0x3a
+refusal_number BadRecord = 0x3b
 
 -- a byte or a cause, by the cause's number
 abbrev pub numbered : Result ℕ Cause → Result ℕ ℕ

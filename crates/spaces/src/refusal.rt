@@ -33,6 +33,10 @@ pub enum Refusal {
     Overlap = 0x34,
     // The extent table has no room left.
     TableFull = 0x35,
+    // A patch file's length is no multiple of 16.
+    BadLength = 0x3a,
+    // A record of a patch file does not have a record's form.
+    BadRecord = 0x3b,
 }
 
 impl Numbered for Refusal {

@@ -1,0 +1,4 @@
+pub mod Runs
+pub mod Records
+pub mod Meant
+pub mod Files

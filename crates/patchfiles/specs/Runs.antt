@@ -1,0 +1,33 @@
+use Rattle.std.specs.Prelude.{ℕ, suc, List, [], ◌∷◌, Some, None, Ok, Err, Option, Result}
+use Rattle.spaces.specs.declared.refusal.Refusal.{Refusal}
+use Rattle.spaces.specs.Piles.{Pile}
+use Rattle.spaces.specs.Edits.{Edit, refusal, edited, unless}
+use Rattle.patchfiles.specs.declared.stopped.Stopped.{Stopped}
+
+-- Edits of a pile, one behind the other.
+
+-- an edit and the depth at which it is made
+pub record Mark : Type 0 where
+  pub depth : ℕ
+  pub edit : Edit
+
+-- the refusal of a mark in a pile, and the pile after it
+abbrev pub refused : Pile → Mark → Option Refusal
+refused p m = refusal p m.depth m.edit
+
+abbrev pub marked : Pile → Mark → Pile
+marked p m = edited p m.depth m.edit
+
+-- the pile after marks in order, of which the first refused one ends all
+abbrev pub left_by : List Mark → Pile → Pile
+left_by [] p = p
+left_by (m ∷ ms) p = unless (refused p m) p (left_by ms (marked p m))
+
+-- how many marks there are, counted on from n, or the first refused, with its index
+abbrev pub counted : ℕ → Option Refusal → Result ℕ Stopped → Result ℕ Stopped
+counted n None rest = rest
+counted n (Some refusal) rest = Err (record { refusal = refusal; index = n })
+
+abbrev pub told_by : ℕ → List Mark → Pile → Result ℕ Stopped
+told_by n [] p = Ok n
+told_by n (m ∷ ms) p = counted n (refused p m) (told_by (suc n) ms (marked p m))

@@ -1,0 +1,8 @@
+use spaces::Refusal;
+
+// Why a patch file goes no further, and the record, counted from 0.
+#[derive(Clone, Copy, Debug, PartialEq, Eq)]
+pub struct Stopped {
+    pub refusal: Refusal,
+    pub index: usize,
+}
