@@ -1,0 +1,4 @@
+pub mod Showing
+pub mod Histories
+pub mod Touching
+pub mod Keeping

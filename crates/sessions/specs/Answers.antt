@@ -1,0 +1,86 @@
+use Rattle.std.specs.Prelude.{◌≡◌, ℕ, List, [], ◌∷◌, ◌++◌, length, drop, replicate, codes, Some, None, Ok, Err, Option, Result}
+use Prim.Native.Char.{code}
+use Rattle.spaces.specs.declared.fault.Fault.{Fault}
+use Rattle.spaces.specs.declared.refusal.Refusal.{Refusal}
+use Rattle.spaces.specs.Numbers.{refusal_number}
+use Rattle.spaces.specs.Piles.{Pile, shown}
+use Rattle.spaces.specs.Reads.{Got, got}
+use Rattle.spaces.specs.Edits.{setting, refusal}
+use Rattle.packets.specs.Digits.{digits, spell, paired}
+use Rattle.packets.specs.Frames.{framed}
+use Rattle.packets.specs.Asking.{asked}
+use Rattle.packets.specs.Commands.{Asked, why_halted, read, write, registers, detach, thread, supported, depth, last_fault, unknown}
+use Rattle.patchfiles.specs.declared.stopped.Stopped.{Stopped}
+use Rattle.patchfiles.specs.Files.{Applies}
+use Rattle.patchfiles.specs.Runs.{left_by}
+use Rattle.sessions.specs.States.{State}
+use Rattle.sessions.specs.Effects.{asked_for, written_by, deepened_by, met_by}
+
+-- What a session replies to a payload, and what it is afterwards.
+
+-- `E` and a number
+abbrev pub failed : ℕ → List ℕ
+failed number = code "E" ∷ digits 2 number
+
+-- the bytes that a read got, or the cause why the very first address has none
+abbrev pub spoken : List ℕ → Option Fault → List ℕ
+spoken [] None = []
+spoken [] (Some fault) = failed fault.cause
+spoken (b ∷ bytes) met = spell (b ∷ bytes)
+
+abbrev pub read_text : Got → List ℕ
+read_text g = spoken g.bytes g.fault
+
+-- done, or a refusal's number
+abbrev pub done : Option Refusal → List ℕ
+done None = codes "OK"
+done (Some refusal) = failed (refusal_number refusal)
+
+-- a fault by its depth, its address and its cause
+abbrev pub fault_text : Option Fault → List ℕ
+fault_text None = codes "none"
+fault_text (Some f) = digits 2 f.depth ++ (codes "," ++ (digits 16 f.address ++ (codes "," ++ digits 2 f.cause)))
+
+-- the reply to a command
+abbrev pub told : State → Asked → List ℕ
+told s why_halted = codes "S05"
+told s (read first count) = read_text (got (shown s.pile) (asked_for first count))
+told s (write first digits) = done (refusal s.pile s.depth (setting first (paired digits)))
+told s registers = replicate 328 (code "x")
+told s detach = codes "OK"
+told s thread = codes "OK"
+told s supported = codes "PacketSize=1000"
+told s (depth k) = codes "OK"
+told s last_fault = fault_text s.last
+told s unknown = []
+
+abbrev pub told_by : State → Result Asked Refusal → List ℕ
+told_by s (Ok asked) = told s asked
+told_by s (Err refusal) = failed (refusal_number refusal)
+
+abbrev pub reply : State → List ℕ → List ℕ
+reply s payload = told_by s (asked payload)
+
+-- the latest of two faults
+abbrev pub latest : Option Fault → Option Fault → Option Fault
+latest None before = before
+latest (Some f) before = Some f
+
+-- the session after a command, and after a payload
+abbrev pub after_asked : State → Result Asked Refusal → State
+after_asked s a = record { pile = left_by (written_by s.depth a) s.pile; depth = deepened_by s.depth a; last = latest (met_by (shown s.pile) a) s.last }
+
+abbrev pub after : State → List ℕ → State
+after s payload = after_asked s (asked payload)
+
+-- what answering a payload leaves: the reply's frame in front of the buffer, whose rest is as it was, and the session
+pub record Answers (s : State) (payload before buffer : List ℕ) (n : ℕ) (t : State) : Type 0 where
+  pub how_many : n ≡ length (framed (reply s payload))
+  pub buffer_is : buffer ≡ framed (reply s payload) ++ drop n before
+  pub session : t ≡ after s payload
+
+-- what applying a file leaves: the pile alone changes
+pub record AppliesTo (s : State) (file : List ℕ) (r : Result ℕ Stopped) (t : State) : Type 0 where
+  pub applies : Applies s.pile t.pile file r
+  pub depth : t.depth ≡ s.depth
+  pub last : t.last ≡ s.last

@@ -1,0 +1,9 @@
+pub mod States
+pub mod Effects
+pub mod Answers
+pub mod Histories
+pub mod Books
+pub mod Shows
+pub mod Promises
+pub mod Sessions
+pub mod Texts

@@ -1,0 +1,81 @@
+// What a session replies to a payload.
+
+ghost use Rattle.std.specs.Prelude.{◌≡◌, ◌+◌, ◌≤◌, ◌^◌, Ok, length};
+ghost use Rattle.packets.specs.Digits.{paired};
+ghost use Rattle.packets.specs.Commands.{read, write, meant};
+ghost use Rattle.sessions.specs.Effects.{end_of};
+ghost use Rattle.sessions.specs.Answers.{after_asked, Answers};
+ghost use Rattle.sessions.specs.Sessions.{state};
+ghost use Rattle.sessions.specs.Texts.{Says};
+
+use crate::session::Session;
+use crate::texts::{fail, say, say_fault};
+use packets::{Command, PAYLOAD, REPLY, digits, frame};
+use spaces::{Numbered, Space};
+
+// How many bytes a read gets at most.
+const READ: usize = 2_048;
+
+// One more than there can be patches: so many bytes decide whether a write is refused.
+const WRITE: usize = 257;
+
+impl<S: Space> Session<S> {
+    fn read(&mut self, first: u64, count: u64, text: &mut [u8; PAYLOAD]) -> usize
+        requires { first + count ≤ 2 ^ 64 }
+        ensures { Says (state S.Space.meaning self.old) (read first count) (state S.Space.meaning self.new) text.new result }
+    {
+        let mut bytes = [0; READ];
+        let room = count.min(READ as u64) as usize;
+        let (got, fault) = self.space.fill(first, &mut bytes[..room]);
+        self.last = fault.or(self.last);
+        match fault {
+            Some(fault) if got == 0 => fail(fault.cause, text),
+            _ => digits::spell(&bytes[..got], text),
+        }
+    }
+
+    fn write(&mut self, first: u64, pairs: &[u8], text: &mut [u8; PAYLOAD]) -> usize
+        requires { first + length (paired pairs.now) ≤ 2 ^ 64 }
+        ensures { Says (state S.Space.meaning self.old) (write first pairs.now) (state S.Space.meaning self.new) text.new result }
+    {
+        let mut bytes = [0; WRITE];
+        let count = digits::bytes(pairs, &mut bytes);
+        match self.space.set(self.depth, first, &bytes[..count]) {
+            Ok(()) => say(b"OK", text),
+            Err(refusal) => fail(refusal.number(), text),
+        }
+    }
+
+    // Does what a command asks for, and writes the text of the reply.
+    fn carry_out(&mut self, command: Command<'_>, text: &mut [u8; PAYLOAD]) -> usize
+        requires { end_of (meant command) ≤ 2 ^ 64 }
+        ensures { Says (state S.Space.meaning self.old) (meant command.entry) (state S.Space.meaning self.new) text.new result }
+    {
+        match command {
+            Command::WhyHalted => say(b"S05", text),
+            Command::Read { first, count } => self.read(first, count, text),
+            Command::Write { first, digits } => self.write(first, digits, text),
+            Command::Registers => say(&[b'x'; 328], text),
+            Command::Detach | Command::Thread => say(b"OK", text),
+            Command::Supported => say(b"PacketSize=1000", text),
+            Command::Depth(depth) => {
+                self.depth = depth;
+                say(b"OK", text)
+            }
+            Command::LastFault => say_fault(self.last, text),
+            Command::Unknown => say(b"", text),
+        }
+    }
+
+    // Answers a payload, refused or not.
+    pub(crate) fn answer(&mut self, payload: &[u8], reply: &mut [u8; REPLY]) -> usize
+        ensures { Answers (state S.Space.meaning self.old) payload.now reply.old reply.new result (state S.Space.meaning self.new) }
+    {
+        let mut text = [0; PAYLOAD];
+        let count = match Command::parse(payload) {
+            Ok(command) => self.carry_out(command, &mut text),
+            Err(refusal) => fail(refusal.number(), &mut text),
+        };
+        frame(&text[..count], reply).unwrap_or(0)
+    }
+}
