@@ -72,7 +72,7 @@ by_index : (bytes : List ℕ) → ((i : ℕ) → get_or bytes i 0 < 256) → All
 by_index [] h = tt
 by_index (b ∷ bs) h = (h 0, by_index bs (λ i. h (suc i)))
 
-length_spell : (bytes : List ℕ) → length (spell bytes) ≡ 2 * length bytes
+pub length_spell : (bytes : List ℕ) → length (spell bytes) ≡ 2 * length bytes
 length_spell [] = refl
 length_spell (b ∷ bs) = grind (arith, length_spell bs)
 

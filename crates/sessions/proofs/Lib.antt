@@ -2,3 +2,8 @@ pub mod Showing
 pub mod Histories
 pub mod Touching
 pub mod Keeping
+pub mod Calls
+pub mod Writing
+pub mod Hearing
+pub mod Saying
+pub mod Ending

@@ -5,7 +5,7 @@ use Rattle.spaces.specs.declared.refusal.Refusal.{Refusal}
 use Rattle.spaces.specs.Numbers.{refusal_number}
 use Rattle.spaces.specs.Piles.{Pile, shown}
 use Rattle.spaces.specs.Reads.{Got, got}
-use Rattle.spaces.specs.Edits.{setting, refusal}
+use Rattle.spaces.specs.Edits.{setting, refusal, Outcome, outcome}
 use Rattle.packets.specs.Digits.{digits, spell, paired}
 use Rattle.packets.specs.Frames.{framed}
 use Rattle.packets.specs.Asking.{asked}
@@ -32,9 +32,9 @@ abbrev pub read_text : Got → List ℕ
 read_text g = spoken g.bytes g.fault
 
 -- done, or a refusal's number
-abbrev pub done : Option Refusal → List ℕ
-done None = codes "OK"
-done (Some refusal) = failed (refusal_number refusal)
+abbrev pub done : Outcome → List ℕ
+done (Ok u) = codes "OK"
+done (Err refusal) = failed (refusal_number refusal)
 
 -- a fault by its depth, its address and its cause
 abbrev pub fault_text : Option Fault → List ℕ
@@ -45,7 +45,7 @@ fault_text (Some f) = digits 2 f.depth ++ (codes "," ++ (digits 16 f.address ++ 
 abbrev pub told : State → Asked → List ℕ
 told s why_halted = codes "S05"
 told s (read first count) = read_text (got (shown s.pile) (asked_for first count))
-told s (write first digits) = done (refusal s.pile s.depth (setting first (paired digits)))
+told s (write first digits) = done (outcome (refusal s.pile s.depth (setting first (paired digits))))
 told s registers = replicate 328 (code "x")
 told s detach = codes "OK"
 told s thread = codes "OK"

@@ -9,7 +9,7 @@ ghost use Rattle.sessions.specs.Sessions.{state};
 ghost use Rattle.sessions.specs.Texts.{Says};
 
 use crate::session::Session;
-use crate::texts::{fail, say, say_fault};
+use crate::texts::{fail, say, say_bytes, say_fault, say_outcome};
 use packets::{Command, PAYLOAD, REPLY, digits, frame};
 use spaces::{Numbered, Space};
 
@@ -28,10 +28,7 @@ impl<S: Space> Session<S> {
         let room = count.min(READ as u64) as usize;
         let (got, fault) = self.space.fill(first, &mut bytes[..room]);
         self.last = fault.or(self.last);
-        match fault {
-            Some(fault) if got == 0 => fail(fault.cause, text),
-            _ => digits::spell(&bytes[..got], text),
-        }
+        say_bytes(&bytes[..got], fault, text)
     }
 
     fn write(&mut self, first: u64, pairs: &[u8], text: &mut [u8; PAYLOAD]) -> usize
@@ -40,10 +37,7 @@ impl<S: Space> Session<S> {
     {
         let mut bytes = [0; WRITE];
         let count = digits::bytes(pairs, &mut bytes);
-        match self.space.set(self.depth, first, &bytes[..count]) {
-            Ok(()) => say(b"OK", text),
-            Err(refusal) => fail(refusal.number(), text),
-        }
+        say_outcome(self.space.set(self.depth, first, &bytes[..count]), text)
     }
 
     // Does what a command asks for, and writes the text of the reply.

@@ -2,11 +2,12 @@ ghost use Rattle.std.specs.Prelude.{◌≡◌, [], take, None};
 ghost use Rattle.sessions.specs.Answers.{Answers, AppliesTo};
 ghost use Rattle.sessions.specs.Histories.{heard, answered, applied};
 ghost use Rattle.sessions.specs.Promises.{Kept, Keeps};
-ghost use Rattle.sessions.specs.Sessions.{state, state_of, HearsItem};
+ghost use Rattle.sessions.specs.Sessions.{waiting, owing, state_of, HearsItem};
 
 use crate::heard::Heard;
 use crate::session::Session;
 use packets::{Item, REPLY};
+use patchfiles::Stopped;
 use spaces::Space;
 
 // A session that waits for a packet.
@@ -21,8 +22,8 @@ pub struct Owing<S> {
 
 impl<S: Space> Waiting<S> {
     pub fn new(space: S) -> Self
-        ensures is { state S.Space.meaning result.session ≡ record { pile = S.Space.meaning space; depth = 0; last = None } }
-        ensures kept { Kept (S.Space.meaning space) [] (state S.Space.meaning result.session) }
+        ensures is { waiting S.Space.meaning result ≡ record { pile = S.Space.meaning space; depth = 0; last = None } }
+        ensures kept { Kept (S.Space.meaning space) [] (waiting S.Space.meaning result) }
     {
         Waiting {
             session: Session {
@@ -35,8 +36,8 @@ impl<S: Space> Waiting<S> {
 
     // Hears the first item in the bytes received.
     pub fn hear<'a>(self, received: &'a [u8]) -> Heard<'a, S>
-        ensures is { HearsItem S.Space.meaning (state S.Space.meaning self.session) received.now result }
-        ensures kept { Keeps (state S.Space.meaning self.session) (heard received.now) (state_of S.Space.meaning result) }
+        ensures is { HearsItem S.Space.meaning (waiting S.Space.meaning self) received.now result }
+        ensures kept { Keeps (waiting S.Space.meaning self) (heard received.now) (state_of S.Space.meaning result) }
     {
         let Waiting { session } = self;
         match packets::hear(received) {
@@ -49,6 +50,14 @@ impl<S: Space> Waiting<S> {
                 item,
             },
         }
+    }
+
+    // Applies a patch file to the pile.
+    pub fn apply(&mut self, file: &[u8]) -> Result<usize, Stopped>
+        ensures is { AppliesTo (waiting S.Space.meaning self.old) file.now result (waiting S.Space.meaning self.new) }
+        ensures kept { Keeps (waiting S.Space.meaning self.old) (applied file.now result) (waiting S.Space.meaning self.new) }
+    {
+        self.session.apply(file)
     }
 
     // The pile, from a session that is over.
@@ -68,11 +77,19 @@ impl<S: Space> Waiting<S> {
 impl<S: Space> Owing<S> {
     // Answers a payload: the reply's frame is in front of the buffer, and this is its length.
     pub fn answer(self, payload: &[u8], reply: &mut [u8; REPLY]) -> (Waiting<S>, usize)
-        ensures is { Answers (state S.Space.meaning self.session) payload.now reply.old reply.new result.1 (state S.Space.meaning result.0.session) }
-        ensures kept { Keeps (state S.Space.meaning self.session) (answered payload.now (take result.1 reply.new)) (state S.Space.meaning result.0.session) }
+        ensures is { Answers (owing S.Space.meaning self) payload.now reply.old reply.new result.1 (waiting S.Space.meaning result.0) }
+        ensures kept { Keeps (owing S.Space.meaning self) (answered payload.now (take result.1 reply.new)) (waiting S.Space.meaning result.0) }
     {
         let Owing { mut session } = self;
         let count = session.answer(payload, reply);
         (Waiting { session }, count)
+    }
+
+    // Applies a patch file to the pile.
+    pub fn apply(&mut self, file: &[u8]) -> Result<usize, Stopped>
+        ensures is { AppliesTo (owing S.Space.meaning self.old) file.now result (owing S.Space.meaning self.new) }
+        ensures kept { Keeps (owing S.Space.meaning self.old) (applied file.now result) (owing S.Space.meaning self.new) }
+    {
+        self.session.apply(file)
     }
 }

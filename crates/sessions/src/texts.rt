@@ -1,11 +1,11 @@
 // The texts of replies, each in front of a buffer that fits the longest.
 
 ghost use Rattle.std.specs.Prelude.{◌≤◌, length};
-ghost use Rattle.sessions.specs.Answers.{failed, fault_text};
+ghost use Rattle.sessions.specs.Answers.{failed, done, spoken, fault_text};
 ghost use Rattle.sessions.specs.Texts.{Begins};
 
 use packets::{PAYLOAD, digits};
-use spaces::Fault;
+use spaces::{Fault, Numbered, Refusal};
 
 pub(crate) fn say(words: &[u8], text: &mut [u8; PAYLOAD]) -> usize
     requires { length words.now ≤ 4096 }
@@ -21,6 +21,27 @@ pub(crate) fn fail(number: u8, text: &mut [u8; PAYLOAD]) -> usize
 {
     let [high, low] = digits::of::<2>(number as u64);
     say(&[b'E', high, low], text)
+}
+
+// `OK`, or `E` and a refusal's number.
+pub(crate) fn say_outcome(outcome: Result<(), Refusal>, text: &mut [u8; PAYLOAD]) -> usize
+    ensures { Begins (done outcome) text.new result }
+{
+    match outcome {
+        Ok(()) => say(b"OK", text),
+        Err(refusal) => fail(refusal.number(), text),
+    }
+}
+
+// The bytes of a read, or the cause why its very first address has none.
+pub(crate) fn say_bytes(bytes: &[u8], met: Option<Fault>, text: &mut [u8; PAYLOAD]) -> usize
+    requires { length bytes.now ≤ 2048 }
+    ensures { Begins (spoken bytes.now met) text.new result }
+{
+    match met {
+        Some(fault) if bytes.is_empty() => fail(fault.cause, text),
+        _ => digits::spell(bytes, text),
+    }
 }
 
 // A fault by its depth, its address and its cause.
