@@ -1,14 +1,14 @@
-use Rattle.std.proofs.Common.{◌≡◌, ℕ, List, ◌++◌, length, take, drop, Ok, Err, Result, refl, sym, subst, ◌∙◌, arith, take_at}
+use Rattle.std.proofs.Common.{◌≡◌, ℕ, List, take, drop, Ok, Err, Result, refl, sym, ◌∙◌, take_at}
 use Rattle.spaces.specs.Piles.{Pile}
 use Rattle.packets.specs.Frames.{framed}
 use Rattle.patchfiles.specs.declared.stopped.Stopped.{Stopped}
 use Rattle.patchfiles.specs.Files as files
 use Rattle.patchfiles.specs.Runs.{Mark, left_by}
 use Rattle.sessions.specs.States.{State}
-use Rattle.sessions.specs.Answers.{reply, after, Answers, AppliesTo}
+use Rattle.sessions.specs.Answers.{reply, Answers, AppliesTo}
 use Rattle.sessions.specs.Histories.{Event, heard, answered, applied}
 use Rattle.sessions.specs.Books.{filed}
-use Rattle.sessions.specs.Promises.{Kept, Keeps}
+use Rattle.sessions.specs.Promises.{Keeps}
 use Rattle.sessions.proofs.Keeping.{stepped, Right, kept_more}
 
 -- Each call is a step of a session, and so keeps the promise.
@@ -27,4 +27,4 @@ left (Ok ms) p = refl
 left (Err stopped) p = refl
 
 pub keeps_applied : (s t : State) (file : List ℕ) (r : Result ℕ Stopped) → AppliesTo s file r t → Keeps s (applied file r) t
-keeps_applied s t file r a = step_keeps s t (applied file r) tt (λ i. record { pile = (a.applies.pile ∙ left (files.asked file) s.pile) i; depth = a.depth i; last = a.last i })
+keeps_applied s t file r a = step_keeps s t (applied file r) tt (let pile = left (files.asked file) s.pile in a.session ∙ (λ i. record { pile = pile i; depth = s.depth; last = s.last }))

@@ -1,13 +1,10 @@
-use Rattle.std.proofs.Common.{◌≡◌, ℕ, ◌≤◌, List, [], ◌∷◌, map, length, Some, None, Ok, Err, Option, Result, refl, sym, subst, ap, ap₂, ◌∙◌, ◌⊎◌, inl, inr, arith}
-use mathlib.Core.List.{Memᴰ}
+use Rattle.std.proofs.Common.{◌≡◌, ℕ, List, [], ◌∷◌, length, Some, None, Ok, Err, Option, Result, refl, sym, subst, ap, ◌∙◌, inl, inr, arith}
 use Rattle.std.proofs.lemmas.List.{length-map}
 use Rattle.spaces.specs.declared.fault.Fault.{Fault}
 use Rattle.spaces.specs.declared.refusal.Refusal.{Refusal}
 use Rattle.spaces.specs.Maps.{Map}
 use Rattle.spaces.specs.Piles.{Pile, Lawful, shown}
 use Rattle.spaces.specs.Reads.{Got, got}
-use Rattle.spaces.specs.Trails.{trail}
-use Rattle.spaces.specs.Edits.{patch_at}
 use Rattle.spaces.specs.EditLaws.{bare, bare_layer}
 use Rattle.spaces.specs.PileLaws.{ReadsAlike}
 use Rattle.spaces.proofs.Arising.{arose}
@@ -17,10 +14,10 @@ use Rattle.packets.specs.Frames.{framed}
 use Rattle.packets.specs.Commands.{Asked, why_halted, read, write, registers, detach, thread, supported, depth, last_fault, unknown}
 use Rattle.patchfiles.specs.Runs.{left_by}
 use Rattle.sessions.specs.States.{State}
-use Rattle.sessions.specs.Effects.{at_most, asked_for, met_by, written_by}
-use Rattle.sessions.specs.Answers.{spoken, read_text, told_by, reply, latest, fault_text}
+use Rattle.sessions.specs.Effects.{at_most, asked_for, met_by}
+use Rattle.sessions.specs.Answers.{spoken, read_text, reply, latest}
 use Rattle.sessions.specs.Histories.{Event, heard, answered, applied, History, Earlier, same, before}
-use Rattle.sessions.specs.Books.{marks, depth_after, book, in_force}
+use Rattle.sessions.specs.Books.{marks, depth_after, in_force}
 use Rattle.sessions.specs.Shows.{Shows, ShownIn}
 use Rattle.sessions.specs.Promises as promised
 use Rattle.sessions.specs.Promises.{Read, since, Met, LastFault, never, RepliesShowTheMap, AskedItIsTold, EveryFaultAroseThere, UntouchedTrailsKeepReplies, Kept, Change}
@@ -69,7 +66,7 @@ module _ (p : Pile) where
   steady : (h : History) → Lawful p → RepliesShowTheMap p h → UntouchedTrailsKeepReplies p h
   steady h l replies r s after addresses untouched = (
     let a = replies r in let b = replies s in
-    a.is ∙ spoken_alike a b ∙ sym b.is,
+        a.is ∙ spoken_alike a b ∙ sym b.is,
     λ o m. let z = sym alike ∙ got_shows map_r r.first (at_most r.count) m.0 o m.1 in (m.0, subst (ShowsGot map_s s.first (at_most s.count)) z (shows_got map_s s.first (at_most s.count))),
   )
     where

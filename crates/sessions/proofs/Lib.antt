@@ -7,3 +7,5 @@ pub mod Writing
 pub mod Hearing
 pub mod Saying
 pub mod Ending
+pub mod Underway
+pub mod Transcripts

@@ -1,4 +1,4 @@
-use Rattle.std.proofs.Common.{◌≡◌, ℕ, ◌+◌, ◌*◌, ◌/◌, ◌≤◌, min, List, [], ◌∷◌, ◌++◌, length, take, drop, Some, None, Option, refl, sym, ◌∙◌, arith, length-append, take_all}
+use Rattle.std.proofs.Common.{◌≡◌, ℕ, ◌*◌, ◌/◌, ◌≤◌, List, [], ◌∷◌, length, take, drop, Some, None, Option, refl, sym, ◌∙◌, arith, take_all}
 use Rattle.std.proofs.lemmas.List.{take_at}
 use Rattle.spaces.specs.declared.fault.Fault.{Fault}
 use Rattle.packets.specs.Digits.{spell, Spells}

@@ -1,12 +1,12 @@
-use Rattle.std.proofs.Common.{◌≡◌, ℕ, List, [], ◌∷◌, Some, None, Option, refl, sym, subst, ◌∙◌, arith}
+use Rattle.std.proofs.Common.{◌≡◌, ℕ, List, [], ◌∷◌, Some, None, Option, refl, ◌∙◌}
 use Rattle.spaces.specs.declared.refusal.Refusal.{Refusal}
-use Rattle.spaces.specs.Piles.{Pile, Lawful, LawfulPile}
+use Rattle.spaces.specs.Piles.{Pile, Lawful}
 use Rattle.spaces.specs.Edits.{patch_at, unless, outcome}
 use Rattle.spaces.specs.EditLaws.{bare, Touches, PileEditLaws}
 use Rattle.spaces.proofs.PileEdits.{pile_edit_laws}
 use Rattle.spaces.proofs.OffTrail.{kept_patch}
 use Rattle.patchfiles.specs.Runs.{Mark, refused, marked, left_by}
-use Rattle.sessions.specs.Histories.{Event, History, Earlier, same, before}
+use Rattle.sessions.specs.Histories.{History, Earlier, same, before}
 use Rattle.sessions.specs.Books.{book, in_force, marks, Takes, first, later}
 use Rattle.sessions.specs.Promises.{Change}
 

@@ -1,10 +1,9 @@
-use Rattle.std.proofs.Common.{◌≡◌, ℕ, suc, ◌+◌, ◌<◌, ◌≤◌, ◌^◌, min, List, [], ◌∷◌, ◌++◌, length, take, drop, Some, None, Ok, Option, refl, ap, ◌∙◌, sym, subst, inl, inr, is_some, true, arith, length-append, length-take, take_all}
+use Rattle.std.proofs.Common.{◌≡◌, ℕ, suc, ◌+◌, ◌<◌, ◌≤◌, ◌^◌, min, List, [], ◌∷◌, length, take, drop, Some, None, Ok, Option, refl, ap, ◌∙◌, sym, subst, inl, inr, is_some, true, arith, length-append, length-take, take_all}
 use Rattle.std.proofs.lemmas.Bool.{cases_lt}
 use Rattle.std.proofs.lemmas.List.{take_at, take_min}
 use Rattle.std.proofs.lemmas.Bool.Decides.{nat_tests}
 use Rattle.spaces.specs.declared.refusal.Refusal.{Refusal}
-use Rattle.spaces.specs.declared.refusal.Refusal.TheVariants.{TooManyPatches}
-use Rattle.spaces.specs.Patches.{Patches, laid, before, from}
+use Rattle.spaces.specs.Patches.{Patches, laid}
 use Rattle.spaces.specs.Piles.{Pile}
 use Rattle.spaces.specs.Edits.{setting, edit, judged, patches_at, refusal, edited, edit_at, unless, Outcome, outcome, Edits}
 use Rattle.packets.specs.Digits.{paired, Places}

@@ -3,7 +3,7 @@ use Prim.Native.Char.{code}
 use Rattle.spaces.specs.declared.fault.Fault.{Fault}
 use Rattle.spaces.specs.declared.refusal.Refusal.{Refusal}
 use Rattle.spaces.specs.Numbers.{refusal_number}
-use Rattle.spaces.specs.Piles.{Pile, shown}
+use Rattle.spaces.specs.Piles.{shown}
 use Rattle.spaces.specs.Reads.{Got, got}
 use Rattle.spaces.specs.Edits.{setting, refusal, Outcome, outcome}
 use Rattle.packets.specs.Digits.{digits, spell, paired}
@@ -11,7 +11,8 @@ use Rattle.packets.specs.Frames.{framed}
 use Rattle.packets.specs.Asking.{asked}
 use Rattle.packets.specs.Commands.{Asked, why_halted, read, write, registers, detach, thread, supported, depth, last_fault, unknown}
 use Rattle.patchfiles.specs.declared.stopped.Stopped.{Stopped}
-use Rattle.patchfiles.specs.Files.{Applies}
+use Rattle.patchfiles.specs.Files.{answer_by, left_of}
+use Rattle.patchfiles.specs.Files.{asked as file_asked}
 use Rattle.patchfiles.specs.Runs.{left_by}
 use Rattle.sessions.specs.States.{State}
 use Rattle.sessions.specs.Effects.{asked_for, written_by, deepened_by, met_by}
@@ -79,8 +80,11 @@ pub record Answers (s : State) (payload before buffer : List ℕ) (n : ℕ) (t :
   pub buffer_is : buffer ≡ framed (reply s payload) ++ drop n before
   pub session : t ≡ after s payload
 
--- what applying a file leaves: the pile alone changes
+-- the session after a file: the pile alone changes
+abbrev pub applied_to : State → List ℕ → State
+applied_to s file = record { pile = left_of (file_asked file) s.pile; depth = s.depth; last = s.last }
+
+-- what applying a file answers and leaves
 pub record AppliesTo (s : State) (file : List ℕ) (r : Result ℕ Stopped) (t : State) : Type 0 where
-  pub applies : Applies s.pile t.pile file r
-  pub depth : t.depth ≡ s.depth
-  pub last : t.last ≡ s.last
+  pub answer : r ≡ answer_by (file_asked file) s.pile
+  pub session : t ≡ applied_to s file

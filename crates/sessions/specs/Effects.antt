@@ -2,7 +2,7 @@ use Rattle.std.specs.Prelude.{ℕ, ◌+◌, min, List, [], ◌∷◌, length, No
 use Rattle.spaces.specs.declared.fault.Fault.{Fault}
 use Rattle.spaces.specs.declared.refusal.Refusal.{Refusal}
 use Rattle.spaces.specs.Maps.{Map}
-use Rattle.spaces.specs.Reads.{Got, got, span}
+use Rattle.spaces.specs.Reads.{got, span}
 use Rattle.spaces.specs.Edits.{setting}
 use Rattle.packets.specs.Digits.{paired}
 use Rattle.packets.specs.Commands.{Asked, why_halted, read, write, registers, detach, thread, supported, depth, last_fault, unknown}

@@ -7,3 +7,4 @@ pub mod Shows
 pub mod Promises
 pub mod Sessions
 pub mod Texts
+pub mod Replays

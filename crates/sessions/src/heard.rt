@@ -4,7 +4,13 @@ use packets::Item;
 // What a session heard.
 pub enum Heard<'a, S> {
     // A good frame. Its payload is to be answered.
-    Packet { session: Owing<S>, payload: &'a [u8] },
+    Packet {
+        session: Owing<S>,
+        payload: &'a [u8],
+    },
     // Anything else. The session still waits.
-    Other { session: Waiting<S>, item: Item<'a> },
+    Other {
+        session: Waiting<S>,
+        item: Item<'a>,
+    },
 }

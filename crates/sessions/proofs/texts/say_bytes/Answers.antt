@@ -1,6 +1,5 @@
-use Rattle.std.proofs.Common.{arith, ◌≡◌, length, Some}
+use Rattle.std.proofs.Common.{arith}
 use Rattle.std.proofs.lemmas.Bool.Decides.{nat_tests}
-use Rattle.spaces.specs.declared.fault.Fault.{Fault}
 use Rattle.sessions.proofs.Saying.{spelled_front, spoken_spelled}
 use Rattle.sessions.proofs.texts.say_bytes.Goals.{in_default-via-in-Some+else-is_empty, in_default-via-in_default}
 use Rattle.sessions.proofs.texts.say_bytes.Goals as goal
