@@ -1,4 +1,4 @@
-use Rattle.std.specs.Prelude.{ℕ, if◌then◌else◌, ◌&&◌, Bool, List, [], ◌∷◌, ◌++◌, take, drop, get_or, Some, None, Option, ◌==◌}
+use Rattle.std.specs.Prelude.{ℕ, if◌then◌else◌, ◌&&◌, Bool, List, [], ◌∷◌, get_or, Some, None, Option, ◌==◌}
 use Rattle.std.specs.List.{list_all}
 use Rattle.std.specs.Option.{option_map}
 use Rattle.endian.specs.Little.{number_at}
@@ -15,16 +15,16 @@ change address kind value =
     else if kind == 0 && value == 0 then Some (clearing address 1)
     else None
 
--- the bytes that no field has
-abbrev pub unused : List ℕ → List ℕ
-unused raw = take 2 (drop 10 raw) ++ drop 13 raw
+-- the places that no field has, and that they are all 0
+abbrev pub unused : List ℕ
+unused = 10 ∷ 11 ∷ 13 ∷ 14 ∷ 15 ∷ []
 
-abbrev pub zeros : List ℕ → Bool
-zeros bytes = list_all (λ b. b == 0) bytes
+abbrev pub blank : List ℕ → Bool
+blank raw = list_all (λ place. get_or raw place 0 == 0) unused
 
 -- what a record asks for, or none if it is malformed
 abbrev pub mark_of : List ℕ → Option Mark
 mark_of raw =
-    if zeros (unused raw)
+    if blank raw
     then option_map (λ e. record { depth = get_or raw 8 0; edit = e }) (change (number_at raw 0 8) (get_or raw 9 0) (get_or raw 12 0))
     else None

@@ -1,4 +1,4 @@
-use Rattle.std.specs.Prelude.{ℕ, suc, List, [], ◌∷◌, Some, None, Ok, Err, Option, Result}
+use Rattle.std.specs.Prelude.{◌≡◌, ℕ, suc, List, [], ◌∷◌, Some, None, Ok, Err, Option, Result}
 use Rattle.spaces.specs.declared.refusal.Refusal.{Refusal}
 use Rattle.spaces.specs.Piles.{Pile}
 use Rattle.spaces.specs.Edits.{Edit, refusal, edited, unless}
@@ -31,3 +31,8 @@ counted n (Some refusal) rest = Err (record { refusal = refusal; index = n })
 abbrev pub told_by : ℕ → List Mark → Pile → Result ℕ Stopped
 told_by n [] p = Ok n
 told_by n (m ∷ ms) p = counted n (refused p m) (told_by (suc n) ms (marked p m))
+
+-- what a run of marks answers and leaves
+pub record Runs (marks : List Mark) (old new : Pile) (r : Result ℕ Stopped) : Type 0 where
+  pub answer : r ≡ told_by 0 marks old
+  pub pile : new ≡ left_by marks old

@@ -1,13 +1,56 @@
-ghost use Rattle.patchfiles.specs.Files.{Applies};
+ghost use Rattle.std.specs.Prelude.{◌≡◌, ℕ, List, position, is_none, MatchOption, Ok, Err};
+ghost use Rattle.spaces.specs.Edits.{Edits};
+ghost use Rattle.patchfiles.specs.Runs.{Mark, Runs};
+ghost use Rattle.patchfiles.specs.Records.{mark_of};
+ghost use Rattle.patchfiles.specs.Files.{marks_of, Applies};
 
 use crate::record::{RECORD, Record};
 use crate::stopped::Stopped;
 use spaces::{Refusal, Space};
+
+// The first record that is malformed.
+fn malformed(records: &[[u8; RECORD]]) -> Option<usize>
+    ensures { result ≡ position (λ raw. is_none (mark_of raw)) records.now }
+{
+    records.iter().position(|raw| Record::parse(raw).is_none())
+}
+
+// Makes the edit of a record.
+fn make<S: Space>(space: &mut S, raw: &[u8; RECORD]) -> Result<(), Refusal>
+    ensures { MatchOption (mark_of raw.now) ((result ≡ Err Refusal.BadRecord) × (S.Space.meaning space.new ≡ S.Space.meaning space.old)) (λ m. Edits (S.Space.meaning space.old) (S.Space.meaning space.new) m.depth m.edit result) }
+{
+    let record = Record::parse(raw).ok_or(Refusal::BadRecord)?;
+    space.edit(record.depth, record.edit)
+}
+
+// Makes the edits of records in order, up to the first refused.
+fn run<S: Space>(space: &mut S, records: &[[u8; RECORD]]) -> Result<usize, Stopped>
+    ensures { (marks : List Mark) → marks_of 0 records.now ≡ Ok marks → Runs marks (S.Space.meaning space.old) (S.Space.meaning space.new) result }
+{
+    for (index, raw) in records.iter().enumerate() {
+        if let Err(refusal) = make(space, raw) {
+            return Err(Stopped { refusal, index });
+        }
+    }
+    Ok(records.len())
+}
 
 // Makes the edits of a patch file in order: how many there are, or where it stops. A malformed file changes nothing; of a
 // well-formed one the records before the first refused stay.
 pub fn apply<S: Space>(space: &mut S, file: &[u8]) -> Result<usize, Stopped>
     ensures { Applies (S.Space.meaning space.old) (S.Space.meaning space.new) file.now result }
 {
-    todo
+    let (records, []) = file.as_chunks::<RECORD>() else {
+        return Err(Stopped {
+            refusal: Refusal::BadLength,
+            index: 0,
+        });
+    };
+    if let Some(index) = malformed(records) {
+        return Err(Stopped {
+            refusal: Refusal::BadRecord,
+            index,
+        });
+    }
+    run(space, records)
 }

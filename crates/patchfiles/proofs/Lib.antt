@@ -1,0 +1,2 @@
+mod Running
+mod Judging
