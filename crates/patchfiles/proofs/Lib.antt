@@ -1,2 +1,4 @@
 mod Running
 mod Judging
+mod Forms
+mod Ending

@@ -1,13 +1,12 @@
-use Rattle.std.proofs.Common.{◌≡◌, ℕ, suc, ◌+◌, ◌<◌, ◌≤◌, List, [], ◌∷◌, length, drop, get_or, Some, None, Ok, Err, Option, Result, refl, sym, subst, ◌∙◌, arith, MatchOption, add-one, ap}
+use Rattle.std.proofs.Common.{◌≡◌, ℕ, suc, ◌+◌, ◌<◌, ◌≤◌, List, [], ◌∷◌, length, drop, get_or, Some, None, Ok, Err, Option, Result, refl, sym, subst, ◌∙◌, arith, add-one, ap}
 use Rattle.std.proofs.Math.ListN.{drop_of_length-le}
 use Rattle.std.proofs.Math.Seq.{drop-cons}
 use Rattle.std.proofs.lemmas.Grind.{common_steps}
 use Rattle.spaces.specs.declared.refusal.Refusal.{Refusal}
-use Rattle.spaces.specs.declared.refusal.Refusal.TheVariants.{BadRecord}
 use Rattle.spaces.specs.Piles.{Pile}
 use Rattle.spaces.specs.Edits.{Edits, Outcome}
 use Rattle.patchfiles.specs.declared.stopped.Stopped.{Stopped}
-use Rattle.patchfiles.specs.Runs.{Mark, left_by, told_by, Runs}
+use Rattle.patchfiles.specs.Runs.{Mark, Makes, left_by, told_by, Runs}
 use Rattle.patchfiles.specs.Records.{mark_of}
 use Rattle.patchfiles.specs.Files.{in_front, marks_of}
 
@@ -21,7 +20,7 @@ module _ (m : Mark) (ms : List Mark) (n : ℕ) (p q : Pile) where
   at_accepted e = grind (arith, common_steps)
 
 -- A record before others: where all are well formed, its mark is the first.
-record Splits (raw : List ℕ) (raws : List (List ℕ)) (n : ℕ) (marks : List Mark) : Type 0 where
+pub record Splits (raw : List ℕ) (raws : List (List ℕ)) (n : ℕ) (marks : List Mark) : Type 0 where
   pub first : Mark
   pub rest : List Mark
   pub is : marks ≡ first ∷ rest
@@ -36,10 +35,6 @@ splits raw raws n marks e = by_parts (mark_of raw) (marks_of (suc n) raws) refl 
     by_parts (Some m) (Err s) a b e = absurd cc
     by_parts (Some m) (Ok ms) a b e = record { first = m; rest = ms; is = cc; reads = a; ahead = b }
 
--- what making the edit of a record answers and leaves
-abbrev pub Makes : List ℕ → Pile → Pile → Outcome → Type 0
-Makes raw old new r = MatchOption (mark_of raw) ((r ≡ Err BadRecord) × (new ≡ old)) (λ m. Edits old new m.depth m.edit r)
-
 -- A run that has come to a record: the marks from there on decide the rest.
 pub record Underway (records : List (List ℕ)) (marks : List Mark) (old now : Pile) (i : ℕ) : Type 0 where
   pub rest : List Mark
@@ -52,10 +47,10 @@ module _ (records : List (List ℕ)) (marks : List Mark) (old now new : Pile) (i
   runs_to_end h k = let n : i ≡ length records = omega arith in let d = drop_of_length-le records h in let a = u.ahead in grind (arith, common_steps)
 
   module _ (inside : i < length records) where
-    here : Splits (get_or records i []) (drop (suc i) records) i u.rest
+    pub here : Splits (get_or records i []) (drop (suc i) records) i u.rest
     here = splits _ _ i u.rest (subst (λ (l : List (List ℕ)). marks_of i l ≡ Ok u.rest) (drop-cons records i [] inside) u.ahead)
 
-    edits : (r : Outcome) → Makes (get_or records i []) now new r → Edits now new here.first.depth here.first.edit r
+    edits : (r : Outcome) → Makes (mark_of (get_or records i [])) now new r → Edits now new here.first.depth here.first.edit r
     edits r e = rw here.reads at e
 
     told_here : told_by 0 marks old ≡ told_by i (here.first ∷ here.rest) now
@@ -64,8 +59,8 @@ module _ (records : List (List ℕ)) (marks : List Mark) (old now new : Pile) (i
     left_here : left_by marks old ≡ left_by (here.first ∷ here.rest) now
     left_here = u.pile ∙ ap (λ (ms : List Mark). left_by ms now) here.is
 
-    pub underway_more : Makes (get_or records i []) now new (Ok tt) → Underway records marks old new (i + 1)
+    pub underway_more : Makes (mark_of (get_or records i [])) now new (Ok tt) → Underway records marks old new (i + 1)
     underway_more e = let a = at_accepted here.first here.rest i now new (edits _ e) in rw add-one (record { rest = here.rest; ahead = here.ahead; answer = told_here ∙ a.0; pile = left_here ∙ a.1 })
 
-    pub runs_to_refusal : (refusal : Refusal) → Makes (get_or records i []) now new (Err refusal) → Runs marks old new (Err (record { refusal = refusal; index = i }))
+    pub runs_to_refusal : (refusal : Refusal) → Makes (mark_of (get_or records i [])) now new (Err refusal) → Runs marks old new (Err (record { refusal = refusal; index = i }))
     runs_to_refusal refusal e = let a = at_refused here.first here.rest i now new refusal (edits _ e) in record { answer = sym (told_here ∙ a.0); pile = sym (left_here ∙ a.1) }

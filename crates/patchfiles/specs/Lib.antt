@@ -2,3 +2,4 @@ pub mod Runs
 pub mod Records
 pub mod Meant
 pub mod Files
+pub mod Ends

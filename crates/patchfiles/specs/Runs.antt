@@ -1,7 +1,8 @@
 use Rattle.std.specs.Prelude.{◌≡◌, ℕ, suc, List, [], ◌∷◌, Some, None, Ok, Err, Option, Result}
 use Rattle.spaces.specs.declared.refusal.Refusal.{Refusal}
+use Rattle.spaces.specs.declared.refusal.Refusal.TheVariants.{BadRecord}
 use Rattle.spaces.specs.Piles.{Pile}
-use Rattle.spaces.specs.Edits.{Edit, refusal, edited, unless}
+use Rattle.spaces.specs.Edits.{Edit, refusal, edited, unless, Outcome, Edits}
 use Rattle.patchfiles.specs.declared.stopped.Stopped.{Stopped}
 
 -- Edits of a pile, one behind the other.
@@ -17,6 +18,11 @@ refused p m = refusal p m.depth m.edit
 
 abbrev pub marked : Pile → Mark → Pile
 marked p m = edited p m.depth m.edit
+
+-- what making a mark answers and leaves; a malformed record has none
+abbrev pub Makes : Option Mark → Pile → Pile → Outcome → Type 0
+Makes None old new r = (r ≡ Err BadRecord) × (new ≡ old)
+Makes (Some m) old new r = Edits old new m.depth m.edit r
 
 -- the pile after marks in order, of which the first refused one ends all
 abbrev pub left_by : List Mark → Pile → Pile

@@ -1,6 +1,5 @@
-ghost use Rattle.std.specs.Prelude.{◌≡◌, ℕ, List, position, is_none, MatchOption, Ok, Err};
-ghost use Rattle.spaces.specs.Edits.{Edits};
-ghost use Rattle.patchfiles.specs.Runs.{Mark, Runs};
+ghost use Rattle.std.specs.Prelude.{◌≡◌, List, position, is_none, Ok};
+ghost use Rattle.patchfiles.specs.Runs.{Mark, Makes, Runs};
 ghost use Rattle.patchfiles.specs.Records.{mark_of};
 ghost use Rattle.patchfiles.specs.Files.{marks_of, Applies};
 
@@ -17,7 +16,7 @@ fn malformed(records: &[[u8; RECORD]]) -> Option<usize>
 
 // Makes the edit of a record.
 fn make<S: Space>(space: &mut S, raw: &[u8; RECORD]) -> Result<(), Refusal>
-    ensures { MatchOption (mark_of raw.now) ((result ≡ Err Refusal.BadRecord) × (S.Space.meaning space.new ≡ S.Space.meaning space.old)) (λ m. Edits (S.Space.meaning space.old) (S.Space.meaning space.new) m.depth m.edit result) }
+    ensures { Makes (mark_of raw.now) (S.Space.meaning space.old) (S.Space.meaning space.new) result }
 {
     let record = Record::parse(raw).ok_or(Refusal::BadRecord)?;
     space.edit(record.depth, record.edit)

@@ -2,9 +2,11 @@
 #![tactic(auto)]
 
 mod applying;
+mod laws;
 mod record;
 mod stopped;
 
 pub use applying::apply;
+pub use laws::every_patch_file_ends_in_one_of_four_ways;
 pub use record::{RECORD, Record};
 pub use stopped::Stopped;
