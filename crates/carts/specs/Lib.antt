@@ -1,0 +1,2 @@
+pub mod Carts
+pub mod Meant
