@@ -2,7 +2,9 @@
 #![tactic(auto)]
 
 mod cart;
+mod laws;
 mod root;
 
-pub use cart::{Cart, load_cart};
+pub use cart::{Cart, RANGES, load_cart};
+pub use laws::worked_examples;
 pub use root::cr3_in;
