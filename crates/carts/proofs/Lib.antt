@@ -1,0 +1,2 @@
+pub mod Loading
+pub mod Examples

@@ -1,0 +1,4 @@
+pub mod Carts
+pub mod Meant
+pub mod Aisle
+pub mod Worked

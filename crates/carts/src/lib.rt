@@ -1,0 +1,10 @@
+// The pile of a stopped cart, from the bytes of its two files.
+#![tactic(auto)]
+
+mod cart;
+mod laws;
+mod root;
+
+pub use cart::{Cart, RANGES, load_cart};
+pub use laws::worked_examples;
+pub use root::cr3_in;
