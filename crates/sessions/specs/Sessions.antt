@@ -3,8 +3,8 @@ use Rattle.spaces.specs.Piles.{Pile}
 use Rattle.packets.specs.Items as items
 use Rattle.packets.specs.Hearing as hearing
 use Rattle.sessions.specs.declared.session.Session.{Session}
-use Rattle.sessions.specs.declared.state.Waiting.{Waiting}
-use Rattle.sessions.specs.declared.state.Owing.{Owing}
+use Rattle.sessions.specs.declared.waiting.Waiting.{Waiting}
+use Rattle.sessions.specs.declared.owing.Owing.{Owing}
 use Rattle.sessions.specs.declared.heard.Heard.{Heard}
 use Rattle.sessions.specs.declared.heard.Heard.TheVariants.{Packet, Other}
 use Rattle.sessions.specs.States.{State}

@@ -1,4 +1,5 @@
-use crate::state::{Owing, Waiting};
+use crate::owing::Owing;
+use crate::waiting::Waiting;
 use packets::Item;
 
 // What a session heard.

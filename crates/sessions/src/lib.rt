@@ -4,12 +4,14 @@
 mod answering;
 mod call;
 mod heard;
+mod owing;
 mod replaying;
 mod session;
-mod state;
 mod texts;
+mod waiting;
 
 pub use call::{Call, Outcome, Slot};
 pub use heard::Heard;
+pub use owing::Owing;
 pub use replaying::{Stage, replay};
-pub use state::{Owing, Waiting};
+pub use waiting::Waiting;

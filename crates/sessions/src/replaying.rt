@@ -3,7 +3,8 @@ ghost use Rattle.sessions.specs.Replays.{stand, call_meant, slot_meant, Steps, R
 
 use crate::call::{Call, Outcome, Slot};
 use crate::heard::Heard;
-use crate::state::{Owing, Waiting};
+use crate::owing::Owing;
+use crate::waiting::Waiting;
 use packets::Item;
 use spaces::Space;
 

@@ -1,23 +1,19 @@
-ghost use Rattle.std.specs.Prelude.{◌≡◌, [], take, None};
-ghost use Rattle.sessions.specs.Answers.{Answers, AppliesTo};
-ghost use Rattle.sessions.specs.Histories.{heard, answered, applied};
+ghost use Rattle.std.specs.Prelude.{◌≡◌, [], None};
+ghost use Rattle.sessions.specs.Answers.{AppliesTo};
+ghost use Rattle.sessions.specs.Histories.{heard, applied};
 ghost use Rattle.sessions.specs.Promises.{Kept, Keeps};
-ghost use Rattle.sessions.specs.Sessions.{waiting, owing, state_of, HearsItem};
+ghost use Rattle.sessions.specs.Sessions.{waiting, state_of, HearsItem};
 
 use crate::heard::Heard;
+use crate::owing::Owing;
 use crate::session::Session;
-use packets::{Item, REPLY};
+use packets::Item;
 use patchfiles::Stopped;
 use spaces::Space;
 
 // A session that waits for a packet.
 pub struct Waiting<S> {
-    session: Session<S>,
-}
-
-// A session that owes a reply.
-pub struct Owing<S> {
-    session: Session<S>,
+    pub(crate) session: Session<S>,
 }
 
 impl<S: Space> Waiting<S> {
@@ -71,25 +67,5 @@ impl<S: Space> Waiting<S> {
             last: _,
         } = session;
         space
-    }
-}
-
-impl<S: Space> Owing<S> {
-    // Answers a payload: the reply's frame is in front of the buffer, and this is its length.
-    pub fn answer(self, payload: &[u8], reply: &mut [u8; REPLY]) -> (Waiting<S>, usize)
-        ensures is { Answers (owing S.Space.meaning self) payload.now reply.old reply.new result.1 (waiting S.Space.meaning result.0) }
-        ensures kept { Keeps (owing S.Space.meaning self) (answered payload.now (take result.1 reply.new)) (waiting S.Space.meaning result.0) }
-    {
-        let Owing { mut session } = self;
-        let count = session.answer(payload, reply);
-        (Waiting { session }, count)
-    }
-
-    // Applies a patch file to the pile.
-    pub fn apply(&mut self, file: &[u8]) -> Result<usize, Stopped>
-        ensures is { AppliesTo (owing S.Space.meaning self.old) file.now result (owing S.Space.meaning self.new) }
-        ensures kept { Keeps (owing S.Space.meaning self.old) (applied file.now result) (owing S.Space.meaning self.new) }
-    {
-        self.session.apply(file)
     }
 }

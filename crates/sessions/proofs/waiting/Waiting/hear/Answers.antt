@@ -1,7 +1,7 @@
 use Rattle.std.proofs.Common.{refl}
 use Rattle.sessions.proofs.Calls.{keeps_heard}
 use Rattle.sessions.proofs.Hearing.{no_packet}
-use Rattle.sessions.proofs.state.Waiting.hear.Goals as goal
+use Rattle.sessions.proofs.waiting.Waiting.hear.Goals as goal
 
 pub returns-in-Packet-clause-kept : goal.returns-in-Packet-clause-kept
 returns-in-Packet-clause-kept g c = keeps_heard _ _ c.args.received.now refl
