@@ -1,3 +1,6 @@
+ghost use Rattle.std.specs.Prelude.{◌≡◌, replicate};
+ghost use Rattle.sessions.specs.Replays.{slot_meant, not_allowed};
+
 use packets::{Item, REPLY};
 use patchfiles::Stopped;
 
@@ -28,4 +31,16 @@ pub enum Outcome<'a> {
 pub struct Slot<'a> {
     pub outcome: Outcome<'a>,
     pub reply: [u8; REPLY],
+}
+
+impl Slot<'_> {
+    // A place where nothing has come yet.
+    pub fn empty() -> Self
+        ensures { slot_meant result ≡ record { outcome = not_allowed; frame = replicate 4100 0 } }
+    {
+        Slot {
+            outcome: Outcome::NotAllowed,
+            reply: [0; REPLY],
+        }
+    }
 }

@@ -1,9 +1,11 @@
 #![tactic(auto)]
 
+mod day;
 mod paged;
 mod talk;
 mod tell;
 
+use day::replay_day;
 use extents::Table;
 use images::{Image, LimeRange, RawExtent, load_lime, load_raw};
 use overlays::Overlay;
@@ -14,7 +16,7 @@ use talk::hear_talk;
 use tell::{list, tell_byte, tell_clear, tell_fill, tell_load, tell_set};
 
 // One task from beginning to end: dumps are loaded, listed, read, walked and patched, and refused where they are damaged;
-// what GDB sends is heard.
+// what GDB sends is heard, and a day with it is replayed.
 fn main(rt: HostRuntime) -> io::Result<()> {
     read_aisle(&rt)?;
     walk_aisle(&rt)?;
@@ -24,7 +26,8 @@ fn main(rt: HostRuntime) -> io::Result<()> {
     try_load(&rt, "version2.lime", 64)?;
     try_load(&rt, "overlap.lime", 64)?;
     try_load(&rt, "aisle.lime", 2)?;
-    hear_talk(&rt)
+    hear_talk(&rt)?;
+    replay_day(&rt)
 }
 
 // The dump of the sample cart, as it is and under an overlay.
