@@ -1,0 +1,22 @@
+use Rattle.std.specs.Prelude.{◌≡◌, ℕ, List, codes, None}
+use Rattle.sessions.specs.States.{State}
+use Rattle.sessions.specs.Answers.{reply, after}
+use Rattle.carts.specs.Worked.{sample}
+
+-- A session over the sample cart.
+
+-- as it is when it is new
+abbrev pub start : State
+start = record { pile = sample; depth = 0; last = None }
+
+-- what a payload is replied, and what asking for the last fault is replied behind it
+pub record Says (s : State) (payload told fault : List ℕ) : Type 0 where
+  pub reply_is : reply s payload ≡ told
+  pub fault_is : reply (after s payload) (codes "qaisle.fault") ≡ fault
+
+pub record SittingExamples : Type 0 where
+  pub no_fault_yet : reply start (codes "qaisle.fault") ≡ codes "none"
+  pub next_page : Says start (codes "mffc,8") (codes "41424344") (codes "01,0000000000001000,11")
+  pub no_byte : Says start (codes "m0,4") (codes "E01") (codes "03,0000000000005000,01")
+  pub no_entry : Says start (codes "m200000,1") (codes "E01") (codes "03,0000000000003008,01")
+  pub unlawful : Says start (codes "m800000000000,1") (codes "E04") (codes "01,0000800000000000,04")
