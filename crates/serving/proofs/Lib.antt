@@ -1,3 +1,4 @@
 pub mod Serving
+pub mod Answering
 pub mod Listening
 pub mod Reading

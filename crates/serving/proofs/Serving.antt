@@ -71,3 +71,75 @@ module _ (known : Bool) where
             let t : Turn = sends known v (heard s) in
             rw (turn (n + m) v s w, turn n v s w) (ap (behind t.sent) (split n m t.served (drop (said (heard s)).used s)) ∙ behind_twice t.sent _ _)
       ])
+
+  -- more bytes behind a whole item
+  pub still_heard : (s more : List ℕ) → heard s ≢ unfinished → (heard (s ++ more) ≡ heard s) × (drop (said (heard s)).used (s ++ more) ≡ drop (said (heard s)).used s ++ more)
+  still_heard s more w =
+      let o = (hears (s ++ more)).only (heard s) _ ((hears s).settled w more) in
+      (sym o.0, ap (λ (i : Heard). drop (said i).used (s ++ more)) o.0 ∙ sym o.1)
+
+  -- turns over a piece, and then those over the piece and what comes behind it
+  pub in_pieces : (fuel : ℕ) (v : Served) (s more : List ℕ)
+      → (n : ℕ) × ((m : ℕ) → let r : Run = serving known fuel v s in serving known (n + m) v (s ++ more) ≡ behind r.sent (serving known m r.served (r.left ++ more)))
+  in_pieces zero v s more = (zero, λ m. rw zero-add refl)
+  in_pieces (suc fuel) v s more = elim (whole_or_not (heard s)) [
+    | inl u ↦ (zero, λ m. rw (zero-add, idle (suc fuel) v s u) refl)
+    | inr w ↦
+        let t : Turn = sends known v (heard s) in
+        let h = still_heard s more w in
+        let w′ : heard (s ++ more) ≢ unfinished = λ e. w (sym h.0 ∙ e) in
+        let ih = in_pieces fuel t.served (drop (said (heard s)).used s) more in
+        (suc ih.0, λ m.
+            let e : suc ih.0 + m ≡ suc (ih.0 + m) = omega arith in
+            rw (e, turn (ih.0 + m) v (s ++ more) w′, turn fuel v s w, h.0, h.1) (ap (behind t.sent) (ih.1 m) ∙ behind_twice t.sent _ _))
+  ]
+
+  -- what is left is unfinished
+  pub left_unfinished : (n : ℕ) (v : Served) (s : List ℕ) → length s ≤ n → heard (serving known n v s).left ≡ unfinished
+  left_unfinished zero v [] l = refl
+  left_unfinished zero v (b ∷ s) l = absurd (omega arith)
+  left_unfinished (suc n) v s l = elim (whole_or_not (heard s)) [
+    | inl u ↦ rw (idle (suc n) v s u) u
+    | inr w ↦
+        let d = length-drop (said (heard s)).used s in
+        let some = whole_uses s w in
+        let within = (hears s).within in
+        rw (turn n v s w) (left_unfinished n (sends known v (heard s)).served (drop (said (heard s)).used s) (omega (arith, d, some, within)))
+  ]
+
+  -- where some turns leave what is unfinished, more change nothing
+  pub over : (n m : ℕ) (v : Served) (s : List ℕ) → heard (serving known n v s).left ≡ unfinished → serving known (n + m) v s ≡ serving known n v s
+  over n m v s u = split n m v s ∙ ap (behind (serving known n v s).sent) (idle m _ _ u) ∙ behind_stopped (serving known n v s)
+
+  pub enough : (n : ℕ) (v : Served) (s : List ℕ) → length s ≤ n → serving known n v s ≡ all_served known v s
+  enough n v s l =
+      let e : n ≡ length s + (n - length s) = omega arith in
+      ap (λ k. serving known k v s) e ∙ over (length s) (n - length s) v s (left_unfinished (length s) v s (omega arith))
+
+  -- where they leave what is unfinished, all is served
+  pub all_done : (n : ℕ) (v : Served) (s : List ℕ) → heard (serving known n v s).left ≡ unfinished → all_served known v s ≡ serving known n v s
+  all_done n v s u = sym (enough (n + length s) v s (omega arith)) ∙ over n (length s) v s u
+
+  pub pieces : (v : Served) (s more : List ℕ) → let r : Run = all_served known v s in all_served known v (s ++ more) ≡ behind r.sent (all_served known r.served (r.left ++ more))
+  pieces v s more =
+      let r : Run = all_served known v s in
+      let p = in_pieces (length s) v s more in
+      let m : ℕ = length (s ++ more) + length (r.left ++ more) in
+      sym (enough (p.0 + m) v (s ++ more) (omega arith)) ∙ p.1 m ∙ ap (behind r.sent) (enough m r.served (r.left ++ more) (omega arith))
+
+  pub each_item : (n : ℕ) (v : Served) (s : List ℕ) (items : List Heard) (rest : List ℕ) → length s ≤ n → Runs s items rest → serving known n v s ≡ in_turn known v items rest
+  each_item n v s items rest l (ends r b) = idle n v s (sym ((hears s).only unfinished s b).0)
+  each_item zero v s items rest l (goes_on stream left r item more w b runs) =
+      let o = (hears s).only item left b in
+      let some = whole_uses s (λ e. w (o.0 ∙ e)) in
+      let within = (hears s).within in
+      absurd (omega arith)
+  each_item (suc n) v s items rest l (goes_on stream left r item more w b runs) =
+      let o = (hears s).only item left b in
+      let d = length-drop (said (heard s)).used s in
+      let w′ : heard s ≢ unfinished = λ e. w (o.0 ∙ e) in
+      let some = whole_uses s w′ in
+      let within = (hears s).within in
+      let t : Turn = sends known v (heard s) in
+      let ih = each_item n t.served (drop (said (heard s)).used s) more rest (omega (arith, d, some, within)) (subst (λ xs. Runs xs more rest) o.1 runs) in
+      turn n v s w′ ∙ ap (behind t.sent) ih ∙ ap (λ (i : Heard). then_on (sends known v i) (λ u. in_turn known u more rest)) (sym o.0)

@@ -1,13 +1,22 @@
-use Rattle.std.specs.Prelude.{◌≡◌, ℕ, ◌-◌, ◌≤◌, Bool, List, ◌++◌, length, Option}
+use Rattle.std.specs.Prelude.{◌≡◌, ℕ, ◌-◌, ◌≤◌, Bool, List, ◌++◌, length, take, Option}
 use Rattle.std.specs.Io.KnownBytes.{Appends, Consumes}
 use Rattle.spaces.specs.Piles.{Pile}
+use Rattle.packets.specs.Frames.{framed}
 use Rattle.packets.specs.Items.{Heard, said}
 use Rattle.packets.specs.Hearing.{heard}
 use Rattle.packets.specs.Streams.{Runs}
-use Rattle.serving.specs.Serving.{Served, fresh, sends, Run, serving, all_served, behind, in_turn}
+use Rattle.sessions.specs.States.{State}
+use Rattle.sessions.specs.Answers.{after}
+use Rattle.serving.specs.Serving.{Served, replied, fresh, sends, Run, serving, all_served, behind, in_turn}
 
 -- What calls do, and what holds of every stream. `old` and `new` are what the output holds where it is known, `before` and
 -- `after` what the input has left where that is known.
+
+-- a payload is answered: the frame that is sent is in front of the buffer, and the session is as after it
+pub record Replies (known : Bool) (s : State) (payload buffer : List ℕ) (n : ℕ) (t : State) : Type 0 where
+  pub front : take n buffer ≡ framed (replied known s payload)
+  pub fits : n ≤ 4100
+  pub session : t ≡ after s payload
 
 -- the first item of the bytes received is served, which uses so many
 pub record Turns (known : Bool) (v : Served) (received : List ℕ) (old new : Option (List ℕ)) (used : ℕ) (w : Served) : Type 0 where

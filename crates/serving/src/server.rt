@@ -3,7 +3,7 @@ ghost use Rattle.std.specs.Io.KnownBytes.{Appends};
 ghost use Rattle.packets.specs.Items.{meant};
 ghost use Rattle.packets.specs.Hearing.{heard};
 ghost use Rattle.serving.specs.Serving.{fresh, due, sends, answered};
-ghost use Rattle.serving.specs.Words.{Listens, InPart, SentInTurn, Turns};
+ghost use Rattle.serving.specs.Words.{Listens, InPart, SentInTurn, Turns, Replies};
 
 use crate::latest::Latest;
 use crate::pc::with_known_pc;
@@ -33,7 +33,7 @@ fn send<W: Write>(item: Item<'_>, latest: &[u8], output: &mut W) -> io::Result<(
 }
 
 impl<S: Space> Server<S> {
-    ghost use Rattle.sessions.specs.Sessions.{owing};
+    ghost use Rattle.sessions.specs.Sessions.{owing, waiting};
     ghost use Rattle.serving.specs.Servers.{served, knows_pc};
 
     // With `known_pc` the program counter is told as 0, and else as not known.
@@ -48,18 +48,29 @@ impl<S: Space> Server<S> {
         }
     }
 
-    // Answers a payload that is owed a reply.
+    // Answers a payload: the frame that is sent is in front of the buffer, and this is its length.
+    fn reply(
+        session: Owing<S>,
+        known_pc: bool,
+        payload: &[u8],
+        reply: &mut [u8; REPLY],
+    ) -> (Waiting<S>, usize)
+        ensures { Replies known_pc (owing S.Space.meaning session) payload.now reply.new result.1 (waiting S.Space.meaning result.0) }
+    {
+        let (session, count) = session.answer(payload, reply);
+        if known_pc {
+            (session, with_known_pc(payload, reply, count))
+        } else {
+            (session, count)
+        }
+    }
+
     fn answer(session: Owing<S>, known_pc: bool, payload: &[u8]) -> Self
         ensures server { (before : List ℕ) → served S.Space.meaning result ≡ answered known_pc (record { session = owing S.Space.meaning session; latest = before }) payload.now }
         ensures pc { knows_pc result ≡ known_pc }
     {
         let mut reply = [0; REPLY];
-        let (session, count) = session.answer(payload, &mut reply);
-        let count = if known_pc {
-            with_known_pc(payload, &mut reply, count)
-        } else {
-            count
-        };
+        let (session, count) = Server::reply(session, known_pc, payload, &mut reply);
         Server {
             session,
             known_pc,
@@ -101,8 +112,10 @@ impl<S: Space> Server<S> {
         ensures pc { knows_pc result.0 ≡ knows_pc self }
     {
         let (server, item) = self.hear(received);
-        let sent = send(item, server.latest.bytes(), output);
-        (server, sent.map(|()| item.used()))
+        match send(item, server.latest.bytes(), output) {
+            Ok(()) => (server, Ok(item.used())),
+            Err(e) => (server, Err(e)),
+        }
     }
 
     // Serves every item that is whole, one behind the other.

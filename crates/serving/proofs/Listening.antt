@@ -1,0 +1,1 @@
+use Rattle.std.proofs.Common.{◌≡◌}
