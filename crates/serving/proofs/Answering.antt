@@ -1,10 +1,9 @@
-use Rattle.std.proofs.Common.{◌≡◌, ℕ, ◌+◌, ◌≤◌, Bool, true, false, ◌&&◌, if◌then◌else◌, List, ◌++◌, length, take, drop, refl, sym, ap, ◌∙◌, arith, length-append}
+use Rattle.std.proofs.Common.{◌≡◌, ℕ, ◌≤◌, Bool, true, false, if◌then◌else◌, List, ◌++◌, length, take, drop, refl, sym, ap, ◌∙◌, arith, length-append}
 use Rattle.std.proofs.lemmas.List.{take_at}
 use Rattle.packets.specs.Frames.{framed}
 use Rattle.sessions.specs.States.{State}
 use Rattle.sessions.specs.Answers.{reply, Answers}
 use Rattle.serving.specs.Registers.{registers, asks_registers, MakesPcKnown}
-use Rattle.serving.specs.Serving.{replied}
 use Rattle.serving.specs.Words.{Replies}
 
 -- The reply in its buffer.

@@ -2,3 +2,4 @@ pub mod Serving
 pub mod Answering
 pub mod Listening
 pub mod Reading
+pub mod Running

@@ -1,11 +1,10 @@
 use Rattle.std.proofs.Common.{◌≡◌, ◌≢◌, ℕ, zero, suc, ◌+◌, ◌-◌, ◌<◌, ◌≤◌, Bool, List, [], ◌∷◌, ◌++◌, length, drop, refl, sym, subst, ap, ◌∙◌, ◌⊎◌, inl, inr, arith, append_assoc, zero-add}
-use Rattle.std.proofs.lemmas.List.{length-drop, append-nil}
+use Rattle.std.proofs.lemmas.List.{length-drop, drop-drop, append-nil}
 use Rattle.packets.specs.Items.{Heard, unfinished, resend, ignored, wrong_sum, no_end, packet, said}
 use Rattle.packets.specs.Hearing.{heard}
-use Rattle.packets.specs.Streams.{Begins, nothing, no_hash_yet, no_digits_yet, minus, other, wrong, endless, good, Hears, Runs, ends, goes_on}
+use Rattle.packets.specs.Streams.{Begins, nothing, no_hash_yet, no_digits_yet, minus, other, wrong, endless, good, Runs, ends, goes_on}
 use Rattle.packets.proofs.Hearings.{hears}
 use Rattle.serving.specs.Serving.{Served, Turn, sends, Run, stopped, behind, then_on, begun, serving, all_served, in_turn}
-use Rattle.serving.specs.Words.{EachItemInTurn, PiecesDoNotMatter, FewTurns}
 
 -- Streams that are served: in pieces, and item by item.
 
@@ -88,10 +87,12 @@ module _ (known : Bool) where
         let t : Turn = sends known v (heard s) in
         let h = still_heard s more w in
         let w′ : heard (s ++ more) ≢ unfinished = λ e. w (sym h.0 ∙ e) in
-        let ih = in_pieces fuel t.served (drop (said (heard s)).used s) more in
-        (suc ih.0, λ m.
-            let e : suc ih.0 + m ≡ suc (ih.0 + m) = omega arith in
-            rw (e, turn (ih.0 + m) v (s ++ more) w′, turn fuel v s w, h.0, h.1) (ap (behind t.sent) (ih.1 m) ∙ behind_twice t.sent _ _))
+        let ih = in_pieces fuel t.served (drop (said (heard s)).used s) more in (
+          suc ih.0,
+          λ m.
+              let e : suc ih.0 + m ≡ suc (ih.0 + m) = omega arith in
+              rw (e, turn (ih.0 + m) v (s ++ more) w′, turn fuel v s w, h.0, h.1) (ap (behind t.sent) (ih.1 m) ∙ behind_twice t.sent _ _),
+        )
   ]
 
   -- what is left is unfinished
@@ -106,6 +107,27 @@ module _ (known : Bool) where
         let within = (hears s).within in
         rw (turn n v s w) (left_unfinished n (sends known v (heard s)).served (drop (said (heard s)).used s) (omega (arith, d, some, within)))
   ]
+
+  -- it is the end of the stream
+  pub left_behind : (n : ℕ) (v : Served) (s : List ℕ) → (k : ℕ) × (k ≤ length s) × ((serving known n v s).left ≡ drop k s)
+  left_behind zero v s = (0, omega arith, refl)
+  left_behind (suc n) v s = elim (whole_or_not (heard s)) [
+    | inl u ↦ (0, omega arith, rw (idle (suc n) v s u) refl)
+    | inr w ↦
+        let used : ℕ = (said (heard s)).used in
+        let h = left_behind n (sends known v (heard s)).served (drop used s) in
+        let d = length-drop used s in
+        let within = (hears s).within in
+        (used + h.0, omega (arith, d, within, h.1), rw (turn n v s w) (h.2 ∙ drop-drop h.0 used s))
+  ]
+
+  pub left_is : (n : ℕ) (v : Served) (s : List ℕ) → let left : List ℕ = (serving known n v s).left in left ≡ drop (length s - length left) s
+  left_is n v s =
+      let h = left_behind n v s in
+      let d = length-drop h.0 s in
+      let e = ap length h.2 in
+      let k : h.0 ≡ length s - length (serving known n v s).left = omega (arith, h.1) in
+      h.2 ∙ ap (λ i. drop i s) k
 
   -- where some turns leave what is unfinished, more change nothing
   pub over : (n m : ℕ) (v : Served) (s : List ℕ) → heard (serving known n v s).left ≡ unfinished → serving known (n + m) v s ≡ serving known n v s

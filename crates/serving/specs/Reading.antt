@@ -1,4 +1,4 @@
-use Rattle.std.specs.Prelude.{◌≡◌, Bool, true, false, List, ℕ, ◌++◌, [], Option}
+use Rattle.std.specs.Prelude.{◌≡◌, Bool, false, List, ℕ, ◌++◌, [], Option}
 use Rattle.std.specs.Io.KnownBytes.{Appends, Consumes, IsAtEnd}
 use Rattle.serving.specs.Serving.{Served, all_served}
 use Rattle.serving.specs.Words.{InPart}

@@ -1,5 +1,5 @@
 use Prim.Native.Char.{code}
-use Rattle.std.specs.Prelude.{◌≡◌, ℕ, Bool, true, false, if◌then◌else◌, List, ◌++◌, drop, length, replicate, Ok, Err, Result}
+use Rattle.std.specs.Prelude.{◌≡◌, ℕ, Bool, true, false, if◌then◌else◌, List, ◌++◌, drop, replicate, Ok, Err, Result}
 use Rattle.spaces.specs.declared.refusal.Refusal.{Refusal}
 use Rattle.packets.specs.Asking.{asked}
 use Rattle.packets.specs.Frames.{framed}

@@ -126,14 +126,17 @@ impl<S: Space> Server<S> {
     {
         let mut server = self;
         let mut used = 0;
-        loop {
+        'items: loop {
             let (next, turn) = server.turn(&received[used..], output);
             server = next;
-            match turn {
-                Ok(0) => return (server, Ok(used)),
-                Ok(n) => used += n,
+            let n = match turn {
+                Ok(n) => n,
                 Err(e) => return (server, Err(e)),
+            };
+            if n == 0 {
+                return (server, Ok(used));
             }
+            used += n;
         }
     }
 

@@ -13,7 +13,10 @@ impl<S: Space> Server<S> {
     ghost use Rattle.serving.specs.Servers.{served, knows_pc};
 
     // Listens to all of the input.
-    fn run<R: Read, W: Write>(self, input: &mut R, output: &mut W) -> (Self, io::Result<()>) {
+    fn run<R: Read, W: Write>(self, input: &mut R, output: &mut W) -> (Self, io::Result<()>)
+        ensures ok { OnOk result.1 (ToTheEnd (knows_pc self) (served S.Space.meaning self) (R.remaining input.old) (R.remaining input.new) (W.contents output.old) (W.contents output.new) (served S.Space.meaning result.0)) }
+        ensures err { OnErr result.1 (InPartOf (knows_pc self) (served S.Space.meaning self) (R.remaining input.old) (R.remaining input.new) (served S.Space.meaning result.0)) }
+    {
         let mut server = self;
         let mut received = Received::nothing();
         for _ in 0..u64::MAX {

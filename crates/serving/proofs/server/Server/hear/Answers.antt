@@ -1,4 +1,4 @@
-use Rattle.std.proofs.Common.{◌≡◌, ap, ◌∙◌}
+use Rattle.std.proofs.Common.{ap, ◌∙◌}
 use Rattle.sessions.specs.States.{State}
 use Rattle.serving.specs.Servers.{latest}
 use Rattle.serving.specs.Serving.{answered}
