@@ -14,6 +14,7 @@ sitting = record {
   no_byte = record { reply_is = refl; fault_is = refl };
   no_entry = record { reply_is = refl; fault_is = refl };
   unlawful = record { reply_is = refl; fault_is = refl };
+  stream = refl;
 }
 
 pub worked : WorkedExamples

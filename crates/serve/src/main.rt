@@ -1,0 +1,35 @@
+// Serves the cart whose files lie where this is run to GDB, over standard input and output. With the argument `--known-pc` the
+// program counter is told as 0.
+#![tactic(auto)]
+
+use carts::{RANGES, load_cart};
+use images::LimeRange;
+use serving::serve;
+use std::env;
+use std::fs::File;
+use std::io::{self, Read};
+
+// How many bytes count of the dump, and of the file with its root.
+const DUMP: u64 = 65_536;
+
+const ROOT: u64 = 8;
+
+fn main(rt: HostRuntime) -> io::Result<()> {
+    let dump = front(&rt, "image.lime", DUMP)?;
+    let root = front(&rt, "root.bin", ROOT)?;
+    let known_pc = env::args(&rt)?.any(|argument| argument.as_str() == "--known-pc");
+    let mut memory = [LimeRange::default(); RANGES];
+    match load_cart(&dump, &root, &mut memory) {
+        Ok(cart) => serve(cart, known_pc, &mut rt.stdin(), &mut rt.stdout()).1,
+        Err(refusal) => println!(rt; "refused {refusal}"),
+    }
+}
+
+// So many bytes of a file at the most. A file that cannot be opened is an empty one.
+fn front(rt: &HostRuntime, name: &str, most: u64) -> io::Result<Vec<u8>> {
+    let mut bytes = Vec::new(rt.alloc());
+    if let Ok(file) = File::open(rt, name) {
+        file.take(most).read_to_end(&mut bytes)?;
+    }
+    Ok(bytes)
+}
