@@ -2,7 +2,7 @@ use Rattle.std.proofs.Common.{ℕ, ◌*◌, ◌^◌, ◌≤◌, List, [], ◌∷
 use Rattle.packets.specs.Digits.{spelled, paired, in_front}
 use Rattle.packets.specs.Commands.{Asked}
 use Rattle.packets.specs.Forms.{Asks, asks_why, asks_read, asks_write, asks_registers, asks_detach, asks_thread, asks_supported, asks_depth, asks_fault, asks_other}
-use Rattle.sessions.specs.Effects.{end_of}
+use Rattle.sessions.specs.Texts.{end_of}
 
 -- No command that is accepted passes address 2 ^ 64 - 1.
 

@@ -1,11 +1,11 @@
-use Rattle.std.specs.Prelude.{ℕ, ◌+◌, min, List, [], ◌∷◌, length, None, Ok, Err, Option, Result}
+use Rattle.std.specs.Prelude.{ℕ, min, List, [], ◌∷◌, None, Ok, Err, Option, Result}
 use Rattle.spaces.specs.declared.fault.Fault.{Fault}
 use Rattle.spaces.specs.declared.refusal.Refusal.{Refusal}
 use Rattle.spaces.specs.Maps.{Map}
 use Rattle.spaces.specs.Reads.{got, span}
 use Rattle.spaces.specs.Edits.{setting}
 use Rattle.packets.specs.Digits.{paired}
-use Rattle.packets.specs.Commands.{Asked, why_halted, read, write, registers, detach, thread, supported, depth, last_fault, unknown}
+use Rattle.packets.specs.Commands.{Asked, read, write, depth}
 use Rattle.patchfiles.specs.Runs.{Mark}
 
 -- What commands do. A refused one does nothing.
@@ -13,28 +13,12 @@ use Rattle.patchfiles.specs.Runs.{Mark}
 -- the edits that a command asks for, at an edit depth
 abbrev pub written : ℕ → Asked → List Mark
 written d (write first digits) = record { depth = d; edit = setting first (paired digits) } ∷ []
-written d (read first count) = []
-written d (depth k) = []
-written d why_halted = []
-written d registers = []
-written d detach = []
-written d thread = []
-written d supported = []
-written d last_fault = []
-written d unknown = []
+written d other = []
 
 -- the edit depth after it
 abbrev pub deepened : ℕ → Asked → ℕ
 deepened d (depth k) = k
-deepened d (read first count) = d
-deepened d (write first digits) = d
-deepened d why_halted = d
-deepened d registers = d
-deepened d detach = d
-deepened d thread = d
-deepened d supported = d
-deepened d last_fault = d
-deepened d unknown = d
+deepened d other = d
 
 -- the addresses that a read is for: at most 2,048
 abbrev pub at_most : ℕ → ℕ
@@ -46,15 +30,7 @@ asked_for first count = span first (at_most count)
 -- the fault that it meets
 abbrev pub met : Map → Asked → Option Fault
 met m (read first count) = (got m (asked_for first count)).fault
-met m (write first digits) = None
-met m (depth k) = None
-met m why_halted = None
-met m registers = None
-met m detach = None
-met m thread = None
-met m supported = None
-met m last_fault = None
-met m unknown = None
+met m other = None
 
 -- the same of a payload, by what it asks for
 abbrev pub written_by : ℕ → Result Asked Refusal → List Mark
@@ -68,16 +44,3 @@ deepened_by d (Err refusal) = d
 abbrev pub met_by : Map → Result Asked Refusal → Option Fault
 met_by m (Ok asked) = met m asked
 met_by m (Err refusal) = None
-
--- the address behind the last one that a command is for
-abbrev pub end_of : Asked → ℕ
-end_of (read first count) = first + count
-end_of (write first digits) = first + length (paired digits)
-end_of (depth k) = 0
-end_of why_halted = 0
-end_of registers = 0
-end_of detach = 0
-end_of thread = 0
-end_of supported = 0
-end_of last_fault = 0
-end_of unknown = 0

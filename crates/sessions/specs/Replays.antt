@@ -105,17 +105,9 @@ pub record Steps (old : Stand) (c : Call) (before after : Place) (new : Stand) :
 -- the events of calls that were made, by what came of them
 abbrev pub event : Call → Outcome → List ℕ → History → History
 event (hear received) (heard item) frame h = events.heard received ∷ h
-event (hear received) not_allowed frame h = h
-event (hear received) (answered n) frame h = h
-event (hear received) (applied r) frame h = h
 event (answer payload) (answered n) frame h = events.answered payload (take n frame) ∷ h
-event (answer payload) not_allowed frame h = h
-event (answer payload) (heard item) frame h = h
-event (answer payload) (applied r) frame h = h
 event (apply file) (applied r) frame h = events.applied file r ∷ h
-event (apply file) not_allowed frame h = h
-event (apply file) (heard item) frame h = h
-event (apply file) (answered n) frame h = h
+event c other frame h = h
 
 abbrev pub transcript : History → List Call → List Place → History
 transcript h [] places = h

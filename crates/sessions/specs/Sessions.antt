@@ -35,11 +35,7 @@ owes (Other w item) = false
 
 abbrev pub is_packet : items.Heard → Bool
 is_packet (items.packet payload) = true
-is_packet (items.wrong_sum used) = false
-is_packet items.unfinished = false
-is_packet items.resend = false
-is_packet items.ignored = false
-is_packet items.no_end = false
+is_packet other = false
 
 -- what hearing answers and leaves: the session as it was, which owes a reply if, and only if, the item is a packet
 pub record HearsItem {S : Type 0} (meaning : S → Pile) (s : State) (received : List ℕ) (r : Heard S) : Type 0 where

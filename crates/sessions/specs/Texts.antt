@@ -1,5 +1,6 @@
-use Rattle.std.specs.Prelude.{◌≡◌, ℕ, ◌≤◌, List, take, length, Ok}
-use Rattle.packets.specs.Commands.{Asked}
+use Rattle.std.specs.Prelude.{◌≡◌, ℕ, ◌+◌, ◌≤◌, List, take, length, Ok}
+use Rattle.packets.specs.Commands.{Asked, read, write}
+use Rattle.packets.specs.Digits.{paired}
 use Rattle.sessions.specs.States.{State}
 use Rattle.sessions.specs.Answers.{told, after_asked}
 
@@ -13,3 +14,9 @@ pub record Begins (words buffer : List ℕ) (n : ℕ) : Type 0 where
 pub record Says (s : State) (asked : Asked) (t : State) (buffer : List ℕ) (n : ℕ) : Type 0 where
   pub text : Begins (told s asked) buffer n
   pub session : t ≡ after_asked s (Ok asked)
+
+-- the address behind the last one that a command is for
+abbrev pub end_of : Asked → ℕ
+end_of (read first count) = first + count
+end_of (write first digits) = first + length (paired digits)
+end_of other = 0

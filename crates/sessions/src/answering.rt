@@ -3,10 +3,9 @@
 ghost use Rattle.std.specs.Prelude.{◌≡◌, ◌+◌, ◌≤◌, ◌^◌, Ok, length};
 ghost use Rattle.packets.specs.Digits.{paired};
 ghost use Rattle.packets.specs.Commands.{read, write, meant};
-ghost use Rattle.sessions.specs.Effects.{end_of};
 ghost use Rattle.sessions.specs.Answers.{after_asked, Answers};
 ghost use Rattle.sessions.specs.Sessions.{state};
-ghost use Rattle.sessions.specs.Texts.{Says};
+ghost use Rattle.sessions.specs.Texts.{Says, end_of};
 
 use crate::session::Session;
 use crate::texts::{fail, say, say_bytes, say_fault, say_outcome};
