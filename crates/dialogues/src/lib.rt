@@ -5,4 +5,22 @@
 #[cfg(test)]
 mod cart;
 #[cfg(test)]
+mod faults;
+#[cfg(test)]
+mod files;
+#[cfg(test)]
+mod foreign;
+#[cfg(test)]
+mod heard;
+#[cfg(test)]
+mod limits;
+#[cfg(test)]
+mod piles;
+#[cfg(test)]
+mod refusals;
+#[cfg(test)]
+mod replays;
+#[cfg(test)]
+mod table;
+#[cfg(test)]
 mod talk;
