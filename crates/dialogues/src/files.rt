@@ -3,9 +3,7 @@ use crate::talk::{owing, replies};
 use patchfiles::Stopped;
 use sessions::Waiting;
 use spaces::{Refusal, Space};
-use std::alloc::AllocError;
 use std::process::Abort;
-use std::test::Fail;
 
 type Raw = [u8; 16];
 
@@ -26,16 +24,6 @@ fn stopped(refusal: Refusal, index: usize) -> Result<usize, Stopped> {
     Err(Stopped { refusal, index })
 }
 
-// A file of records and bytes behind them.
-fn joined(rt: &impl AllocGlobal, records: &[Raw], more: &[u8]) -> Result<Vec<u8>, AllocError> {
-    let mut file = Vec::new(rt.alloc());
-    for raw in records {
-        file.extend_from_slice(raw)?;
-    }
-    file.extend_from_slice(more)?;
-    Ok(file)
-}
-
 fn apply<S: Space + Drop>(
     rt: &impl Abort,
     session: Waiting<S>,
@@ -43,7 +31,7 @@ fn apply<S: Space + Drop>(
     expected: Result<usize, Stopped>,
 ) -> Waiting<S> {
     let mut session = session;
-    assert_eq!(rt; session.apply(file), expected);
+    assert!(rt; session.apply(file) == expected);
     session
 }
 
@@ -55,7 +43,7 @@ fn apply_owing<S: Space + Drop>(
     expected: Result<usize, Stopped>,
 ) -> Waiting<S> {
     let mut session = owing(rt, session, b"D");
-    assert_eq!(rt; session.apply(file), expected);
+    assert!(rt; session.apply(file) == expected);
     let mut buffer = [0; packets::REPLY];
     let (session, _) = session.answer(b"D", &mut buffer);
     session
@@ -99,42 +87,36 @@ fn applies(rt: &impl Abort, file: &[u8], expected: Result<usize, Stopped>, bytes
 const SAME: &str = "aa05060708090a0b0c0d0e0f";
 
 #[test]
-fn records_take_effect(rt: HostRuntime) -> Result<(), Fail> {
+fn records_take_effect(rt: HostRuntime) {
     let marks = [set(6, 2, 0x66), set(3, 0, 0), clear(4, 2)];
-    let cases: [(&[Raw], &str); 5] = [
-        (&[], SAME),
-        (&marks[..1], "aa05660708090a0b0c0d0e0f"),
-        (&marks[..2], "aa05660008090a0b0c0d0e0f"),
-        (&marks, "0405660008090a0b0c0d0e0f"),
-        // nothing is patched there
-        (&[clear(9, 2), clear(4, 0)], SAME),
-    ];
-    for (records, bytes) in cases {
-        let file = joined(&rt, records, b"")?;
-        applies(&rt, &file, Ok(records.len()), bytes);
-    }
-    Ok(())
+    let [first, second, _] = marks;
+    applies(&rt, b"", Ok(0), SAME);
+    applies(&rt, &first, Ok(1), "aa05660708090a0b0c0d0e0f");
+    let two = [first, second];
+    applies(&rt, two.as_flattened(), Ok(2), "aa05660008090a0b0c0d0e0f");
+    applies(&rt, marks.as_flattened(), Ok(3), "0405660008090a0b0c0d0e0f");
+    // nothing is patched there
+    let idle = [clear(9, 2), clear(4, 0)];
+    applies(&rt, idle.as_flattened(), Ok(2), SAME);
 }
 
 // Of two records for an address the later counts.
 #[test]
-fn records_in_order(rt: HostRuntime) -> Result<(), Fail> {
-    let file = joined(&rt, &[set(6, 2, 1), set(6, 2, 0xfe)], b"")?;
-    applies(&rt, &file, Ok(2), "aa05fe0708090a0b0c0d0e0f");
-    let file = joined(&rt, &[set(6, 2, 1), clear(6, 2)], b"")?;
-    applies(&rt, &file, Ok(2), SAME);
-    let file = joined(&rt, &[clear(6, 2), set(6, 2, 1)], b"")?;
-    applies(&rt, &file, Ok(2), "aa05010708090a0b0c0d0e0f");
-    Ok(())
+fn records_in_order(rt: HostRuntime) {
+    for (records, bytes) in [
+        ([set(6, 2, 1), set(6, 2, 0xfe)], "aa05fe0708090a0b0c0d0e0f"),
+        ([set(6, 2, 1), clear(6, 2)], SAME),
+        ([clear(6, 2), set(6, 2, 1)], "aa05010708090a0b0c0d0e0f"),
+    ] {
+        applies(&rt, records.as_flattened(), Ok(2), bytes);
+    }
 }
 
 // A file byte by byte: address 102030405060708 is set to 99 at depth 0, then the last address to 98.
 #[test]
 fn bytes_of_a_file(rt: HostRuntime) {
-    let file = [
-        8, 7, 6, 5, 4, 3, 2, 1, 0, 1, 0, 0, 0x99, 0, 0, 0, 255, 255, 255, 255, 255, 255, 255, 255,
-        0, 1, 0, 0, 0x98, 0, 0, 0,
-    ];
+    let file = *b"\x08\x07\x06\x05\x04\x03\x02\x01\0\x01\0\0\x99\0\0\0\
+        \xff\xff\xff\xff\xff\xff\xff\xff\0\x01\0\0\x98\0\0\0";
     let session = apply(&rt, Waiting::new(counting(4)), &file, Ok(2));
     let session = replies(
         &rt,
@@ -150,20 +132,18 @@ fn bytes_of_a_file(rt: HostRuntime) {
 
 // It counts before the form of a record does.
 #[test]
-fn wrong_lengths(rt: HostRuntime) -> Result<(), Fail> {
-    let expected = stopped(Refusal::BadLength, 0);
+fn wrong_lengths(rt: HostRuntime) {
     for raw in [set(6, 2, 0x66), record(6, 2, 2, 0x66)] {
+        let both = [raw, raw];
         for length in [1, 15, 17, 31] {
-            let both = joined(&rt, &[raw, raw], b"")?;
-            assert!(rt; length <= both.len());
-            applies(&rt, &both[..length], expected, SAME);
+            let file = &both.as_flattened()[..length];
+            applies(&rt, file, stopped(Refusal::BadLength, 0), SAME);
         }
     }
-    Ok(())
 }
 
 // No record of such a file takes effect, and the first that is malformed is told.
-fn malformed(rt: &(impl Abort + AllocGlobal), raw: Raw) -> Result<(), AllocError> {
+fn malformed(rt: &impl Abort, raw: Raw) {
     let good = set(6, 2, 0x66);
     // and this one would be refused
     let early = set(6, 3, 0x66);
@@ -172,74 +152,73 @@ fn malformed(rt: &(impl Abort + AllocGlobal), raw: Raw) -> Result<(), AllocError
         ([good, raw, raw], 1),
         ([early, good, raw], 2),
     ] {
-        let file = joined(rt, &records, b"")?;
-        applies(rt, &file, stopped(Refusal::BadRecord, index), SAME);
+        let expected = stopped(Refusal::BadRecord, index);
+        applies(rt, records.as_flattened(), expected, SAME);
     }
-    Ok(())
 }
 
 #[test]
-fn wrong_kinds(rt: HostRuntime) -> Result<(), Fail> {
+fn wrong_kinds(rt: HostRuntime) {
     for kind in [2, 3, 0x31, 0x80, 0xff] {
-        malformed(&rt, record(6, 2, kind, 0))?;
+        malformed(&rt, record(6, 2, kind, 0));
     }
-    Ok(())
 }
 
 #[test]
-fn clears_with_values(rt: HostRuntime) -> Result<(), Fail> {
+fn clears_with_values(rt: HostRuntime) {
     for value in [1, 0x80, 0xff] {
-        malformed(&rt, record(6, 2, 0, value))?;
+        malformed(&rt, record(6, 2, 0, value));
     }
-    Ok(())
 }
 
 #[test]
-fn unused_bytes(rt: HostRuntime) -> Result<(), Fail> {
-    for place in [10usize, 11, 13, 14, 15] {
-        for (kind, value) in [(0, 1), (1, 0x80)] {
+fn unused_bytes(rt: HostRuntime) {
+    for kind in [0, 1] {
+        for place in [10usize, 11, 13, 14, 15] {
             let mut raw = record(6, 2, kind, 0);
-            if let Some(slot) = raw.get_mut(place) {
-                *slot = value;
-            }
-            malformed(&rt, raw)?;
+            raw[place] = 0x80 >> (place % 8);
+            malformed(&rt, raw);
         }
     }
-    Ok(())
 }
 
 // Records before the first refused stay.
-#[test]
-fn no_overlay(rt: HostRuntime) -> Result<(), Fail> {
+fn refused(rt: &impl Abort, raw: Raw) {
     let good = set(6, 2, 0x66);
     let other = set(7, 2, 0x77);
-    for depth in [1, 3, 4, 0xff] {
-        for raw in [set(6, depth, 1), clear(6, depth)] {
-            let file = joined(&rt, &[good, raw, other], b"")?;
-            let expected = stopped(Refusal::NoOverlay, 1);
-            applies(&rt, &file, expected, "aa05660708090a0b0c0d0e0f");
-            let file = joined(&rt, &[raw, good, other], b"")?;
-            applies(&rt, &file, stopped(Refusal::NoOverlay, 0), SAME);
-        }
+    let changed = "aa05660708090a0b0c0d0e0f";
+    for (records, index, bytes) in [
+        ([raw, good, other], 0, SAME),
+        ([good, raw, other], 1, changed),
+        ([good, clear(7, 2), raw], 2, changed),
+    ] {
+        let expected = stopped(Refusal::NoOverlay, index);
+        applies(rt, records.as_flattened(), expected, bytes);
     }
-    Ok(())
+}
+
+#[test]
+fn no_overlay(rt: HostRuntime) {
+    for depth in [1, 3, 4, 0xff] {
+        refused(&rt, set(6, depth, 1));
+        refused(&rt, clear(6, depth));
+    }
 }
 
 // At the 257th address a file stops. One is taken back, and another takes its place.
 #[test]
-fn too_many_patches(rt: HostRuntime) -> Result<(), Fail> {
-    let mut full = Vec::new(rt.alloc());
-    for address in 0..257 {
-        full.extend_from_slice(&set(address, 0, 0x5a))?;
+fn too_many_patches(rt: HostRuntime) {
+    let mut full = [set(0, 0, 0x5b); 258];
+    for (slot, address) in full.iter_mut().zip(0..257) {
+        *slot = set(address, 0, 0x5a);
     }
-    full.extend_from_slice(&set(0, 0, 0x5b))?;
-    let other = joined(&rt, &[clear(0, 0), set(0x100, 0, 0x5b)], b"")?;
     let stop = stopped(Refusal::TooManyPatches, 256);
-    let session = apply(&rt, Waiting::new(counting(0x200)), &full, stop);
+    let session = Waiting::new(counting(0x200));
+    let session = apply(&rt, session, full.as_flattened(), stop);
     let there = [("m0,2", "5a5a"), ("mfe,4", "5a5a0001")];
     let session = replies(&rt, session, &there);
-    let session = apply_owing(&rt, session, &other, Ok(2));
+    let other = [clear(0, 0), set(0x100, 0, 0x5b)];
+    let session = apply_owing(&rt, session, other.as_flattened(), Ok(2));
     let there = [("m0,2", "005a"), ("mfe,4", "5a5a5b01"), ("M0,1:00", "E27")];
     let _ = replies(&rt, session, &there).close();
-    Ok(())
 }

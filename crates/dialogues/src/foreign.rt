@@ -1,8 +1,7 @@
-use crate::piles::{counting, spared};
+use crate::piles::{counting, spared, windowed};
 use crate::talk::dialogue;
-use outsiders::Window;
+use outsiders::{Ramp, Window};
 use overlays::Overlay;
-use spaces::Space;
 
 // A window, which is a walk: two reads of the same addresses agree when patches between them are off its trail.
 #[test]
@@ -10,7 +9,7 @@ fn off_the_trail(rt: HostRuntime) {
     // addresses 0 to 3 rest on 4 to 7 at depth 2
     dialogue(
         &rt,
-        crate::piles::windowed(),
+        windowed(),
         &[
             ("m0,4", "04050607"),
             ("Qaisle.depth:02", "OK"),
@@ -29,7 +28,7 @@ fn off_the_trail(rt: HostRuntime) {
 fn off_the_trail_of_a_fault(rt: HostRuntime) {
     dialogue(
         &rt,
-        crate::piles::windowed(),
+        windowed(),
         &[
             ("ma,4", "0e0f"),
             ("qaisle.fault", "03,0000000000000010,77"),
@@ -84,7 +83,7 @@ fn nothing_to_patch(rt: HostRuntime) {
     let window = Window {
         start: 2,
         length: 2,
-        below: outsiders::Ramp { length: 3 },
+        below: Ramp { length: 3 },
     };
     dialogue(
         &rt,
@@ -102,7 +101,7 @@ fn nothing_to_patch(rt: HostRuntime) {
     );
     dialogue(
         &rt,
-        outsiders::Ramp { length: 0 },
+        Ramp { length: 0 },
         &[("m0,1", "E77"), ("qaisle.fault", "00,0000000000000000,77")],
     );
 }
@@ -115,14 +114,18 @@ fn one_session_after_another(rt: HostRuntime) {
         ("M1,1:ee", "OK"),
         ("m4,1", "E77"),
     ];
-    let space = dialogue(&rt, Overlay::new(counting(4)), &first);
-    assert_eq!(rt; space.byte(1), Ok(0xee));
     let second = [
         ("qaisle.fault", "none"),
         ("M2,1:dd", "OK"),
         ("m0,4", "00eedd03"),
     ];
+    // the second one patched at depth 0
+    let third = [
+        ("Qaisle.depth:01", "OK"),
+        ("M1,2:abcd", "OK"),
+        ("m0,4", "00abdd03"),
+    ];
+    let space = dialogue(&rt, Overlay::new(counting(4)), &first);
     let space = dialogue(&rt, space, &second);
-    // it was patched at depth 0
-    assert_eq!(rt; space.byte(2), Ok(0xdd));
+    dialogue(&rt, space, &third);
 }

@@ -73,28 +73,18 @@ fn the_last_address(rt: HostRuntime) {
     );
 }
 
-// A write of so many bytes from an address on, each 5a.
-fn write<'a>(
-    rt: &impl Abort,
-    place: &str,
-    bytes: usize,
-    payload: &'a mut [u8; PAYLOAD],
-) -> &'a [u8] {
-    let place = place.as_bytes();
-    let end = place.len().saturating_add(bytes.saturating_mul(2));
-    assert!(rt; end <= PAYLOAD && place.len() <= end);
-    for (slot, n) in payload.iter_mut().zip(0usize..) {
-        *slot = if n % 2 == 0 { b'5' } else { b'a' };
-    }
-    // the digits begin at an even place
-    payload[..place.len()].copy_from_slice(place);
-    &payload[..end]
+// A write of so many bytes, each 55, behind what comes before its digits.
+fn write<'a>(place: &[u8], bytes: u16, payload: &'a mut [u8; PAYLOAD]) -> &'a [u8] {
+    let start = place.len().min(PAYLOAD);
+    payload[..start].copy_from_slice(&place[..start]);
+    payload[start..].fill(b'5');
+    &payload[..(start + 2 * bytes as usize).min(PAYLOAD)]
 }
 
 // An overlay with patches at addresses 0 to ff.
 fn full(rt: &impl Abort) -> Waiting<Overlay<Ramp>> {
     let mut payload = [0; PAYLOAD];
-    let written = write(rt, "M00,100:", 256, &mut payload);
+    let written = write(b"M0,100:", 256, &mut payload);
     reply(rt, Waiting::new(counting(0x200)), written, b"OK")
 }
 
@@ -107,11 +97,11 @@ fn no_more_than_256_patches(rt: HostRuntime) {
         &[
             ("M100,1:00", "E27"),
             ("Mff,2:0000", "E27"),
-            ("mfe,4", "5a5a0001"),
+            ("mfe,4", "55550001"),
             // one that is patched can be patched anew
             ("M0,1:11", "OK"),
             ("Mff,1:22", "OK"),
-            ("mfe,4", "5a220001"),
+            ("mfe,4", "55220001"),
             ("M100,1:00", "E27"),
             ("qaisle.fault", "none"),
         ],
@@ -120,9 +110,9 @@ fn no_more_than_256_patches(rt: HostRuntime) {
 }
 
 // Writes of more bytes than there can be patches.
-fn too_many(rt: &impl Abort, place: &str, bytes: usize, text: &[u8]) {
+fn too_many(rt: &impl Abort, place: &str, bytes: u16, text: &[u8]) {
     let mut payload = [0; PAYLOAD];
-    let written = write(rt, place, bytes, &mut payload);
+    let written = write(place.as_bytes(), bytes, &mut payload);
     let session = reply(rt, Waiting::new(counting(0x200)), written, text);
     let session = replies(rt, session, &[("m0,2", "0001"), ("mfe,4", "feff0001")]);
     let _ = session.close();
@@ -130,12 +120,12 @@ fn too_many(rt: &impl Abort, place: &str, bytes: usize, text: &[u8]) {
 
 #[test]
 fn long_writes(rt: HostRuntime) {
-    too_many(&rt, "M00,101:", 0x101, b"E27");
+    too_many(&rt, "M0,101:", 0x101, b"E27");
     // the longest payload
     too_many(&rt, "M00,7fc:", 0x7fc, b"E27");
     // it ends at the last address
     too_many(&rt, "Mfffffffffffffefe,102:", 0x102, b"E27");
     too_many(&rt, "Mfffffffffffffeff,102:", 0x102, b"E25");
     too_many(&rt, "Mfffffffffffffffe,102:", 0x102, b"E25");
-    too_many(&rt, "M00,101:", 0x102, b"E24");
+    too_many(&rt, "M0,101:", 0x102, b"E24");
 }

@@ -1,18 +1,25 @@
 use crate::piles::windowed;
-use crate::talk::dialogue;
+use crate::talk::{replies, reply};
+use sessions::Waiting;
 use std::process::Abort;
 
 // A session that has patched address 4 at depth 2 and met a fault, is refused a payload with this reply, and then shows what
 // it had: the fault, every byte, and the depth, at which it patches 5.
 fn refused(rt: &impl Abort, payload: &str, text: &str) {
-    dialogue(
+    let session = replies(
         rt,
-        windowed(),
+        Waiting::new(windowed()),
         &[
             ("Qaisle.depth:02", "OK"),
             ("M4,1:aa", "OK"),
             ("m10,1", "E78"),
-            (payload, text),
+        ],
+    );
+    let session = reply(rt, session, payload.as_bytes(), text.as_bytes());
+    let session = replies(
+        rt,
+        session,
+        &[
             ("qaisle.fault", "01,0000000000000010,78"),
             ("m0,10", "aa05060708090a0b0c0d0e0f"),
             ("qaisle.fault", "03,0000000000000010,77"),
@@ -20,6 +27,7 @@ fn refused(rt: &impl Abort, payload: &str, text: &str) {
             ("m0,3", "aabb06"),
         ],
     );
+    let _ = session.close();
 }
 
 fn all_refused(rt: &impl Abort, payloads: &[&str], text: &str) {
@@ -129,12 +137,12 @@ fn past_the_end(rt: HostRuntime) {
 
 // At another depth than those of the overlays a write is refused, by an earlier number where one applies.
 fn refused_at(rt: &impl Abort, depth: &str) {
-    dialogue(
+    let session = reply(rt, Waiting::new(windowed()), depth.as_bytes(), b"OK");
+    let session = replies(
         rt,
-        windowed(),
+        session,
         &[
             ("mc,1", "E77"),
-            (depth, "OK"),
             ("M0,1:00", "E26"),
             ("Mffffffffffffffff,1:00", "E26"),
             ("Mffffffffffffffff,2:0000", "E25"),
@@ -147,6 +155,7 @@ fn refused_at(rt: &impl Abort, depth: &str) {
             ("m0,10", "0405060708090a0b0c0d0e0f"),
         ],
     );
+    let _ = session.close();
 }
 
 #[test]

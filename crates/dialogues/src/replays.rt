@@ -1,51 +1,44 @@
-use crate::piles::{Windowed, counting, windowed};
-use crate::talk::framed;
-use packets::{Item, REPLY};
+use crate::piles::{counting, windowed};
+use crate::talk::{dialogue, framed};
+use packets::{Item, PAYLOAD, REPLY};
 use patchfiles::Stopped;
 use sessions::{Call, Outcome, Slot, Stage, replay};
 use spaces::{Refusal, Space};
 use std::process::Abort;
 
-// A place for an outcome that no call here has.
+// A place before a call: it has an outcome that no call here has.
 const EMPTY: Slot<'static> = Slot {
     outcome: Outcome::Answered(0),
     reply: [b'.'; REPLY],
 };
 
-// What comes of a call: its outcome, and the text of its reply where there is one.
-type Came<'a> = (Outcome<'a>, Option<&'a str>);
-
-const NOT_ALLOWED: Came<'static> = (Outcome::NotAllowed, None);
-
-const UNTOUCHED: Came<'static> = (Outcome::Answered(0), None);
-
-fn hears(item: Item<'_>) -> Came<'_> {
-    (Outcome::Heard(item), None)
+// Places after a call: the buffer is as it was but for a reply.
+fn came(outcome: Outcome) -> Slot {
+    Slot {
+        outcome,
+        reply: EMPTY.reply,
+    }
 }
 
-fn packet(payload: &str) -> Came<'_> {
-    hears(Item::Packet {
-        payload: payload.as_bytes(),
-    })
+fn hears(item: Item) -> Slot {
+    came(Outcome::Heard(item))
 }
 
-fn says(text: &str) -> Came<'_> {
-    (Outcome::Answered(text.len().saturating_add(4)), Some(text))
+fn packet(payload: &[u8]) -> Slot<'_> {
+    hears(Item::Packet { payload })
 }
 
-fn applies(outcome: Result<usize, Stopped>) -> Came<'static> {
-    (Outcome::Applied(outcome), None)
+fn says(text: &[u8]) -> Slot<'static> {
+    Slot {
+        outcome: Outcome::Answered(text.len().min(PAYLOAD) + 4),
+        reply: framed(text),
+    }
 }
 
-fn came(rt: &impl Abort, slots: &[Slot], expected: &[Came]) {
-    assert_eq!(rt; slots.len(), expected.len());
-    for (n, (slot, (outcome, text))) in slots.iter().zip(expected).enumerate() {
-        assert_eq!(rt; slot.outcome, *outcome, "{n}");
-        let buffer = match text {
-            Some(text) => framed(text.as_bytes()),
-            None => EMPTY.reply,
-        };
-        assert_eq!(rt; slot.reply, buffer, "{n}");
+fn are(rt: &impl Abort, slots: &[Slot], expected: &[Slot]) {
+    assert!(rt; slots.len() == expected.len());
+    for (slot, other) in slots.iter().zip(expected) {
+        assert!(rt; slot.outcome == other.outcome && slot.reply == other.reply);
     }
 }
 
@@ -88,23 +81,23 @@ fn calls_in_turn(rt: HostRuntime) {
     let (owes, _) = left(replay(counting(4), &calls, &mut slots));
     assert!(rt; !owes);
     let expected = [
-        NOT_ALLOWED,
+        came(Outcome::NotAllowed),
         hears(Item::Ignored),
-        NOT_ALLOWED,
-        packet("?"),
-        NOT_ALLOWED,
-        says("0001"),
-        NOT_ALLOWED,
-        applies(Ok(1)),
-        packet("g"),
-        NOT_ALLOWED,
-        applies(Err(Stopped {
+        came(Outcome::NotAllowed),
+        packet(b"?"),
+        came(Outcome::NotAllowed),
+        says(b"0001"),
+        came(Outcome::NotAllowed),
+        came(Outcome::Applied(Ok(1))),
+        packet(b"g"),
+        came(Outcome::NotAllowed),
+        came(Outcome::Applied(Err(Stopped {
             refusal: Refusal::BadLength,
             index: 0,
-        })),
-        says("00ee"),
+        }))),
+        says(b"00ee"),
     ];
-    came(&rt, &slots, &expected);
+    are(&rt, &slots, &expected);
 }
 
 // A call that is not allowed changes neither the depth nor the last fault.
@@ -127,31 +120,29 @@ fn calls_not_allowed(rt: HostRuntime) {
     let mut slots = [EMPTY; 12];
     let (owes, space) = left(replay(windowed(), &calls, &mut slots));
     assert!(rt; !owes);
-    patched_at_2(&rt, space);
-    let expected = [
-        packet("D"),
-        says("OK"),
-        NOT_ALLOWED,
-        packet("D"),
-        says("E77"),
-        NOT_ALLOWED,
-        packet("D"),
-        NOT_ALLOWED,
-        says("03,0000000000000010,77"),
-        packet("D"),
-        says("OK"),
-        NOT_ALLOWED,
+    // address 4 is patched at depth 2, and 5 is not
+    let there = [
+        ("m0,2", "aa05"),
+        ("Qaisle.depth:02", "OK"),
+        ("M4,1:ab", "OK"),
+        ("m0,2", "ab05"),
     ];
-    came(&rt, &slots, &expected);
-}
-
-// Address 4 is, and 5 is not.
-fn patched_at_2(rt: &impl Abort, space: Windowed) {
-    let mut space = space;
-    assert_eq!(rt; space.byte(0), Ok(0xaa));
-    assert_eq!(rt; space.byte(1), Ok(5));
-    assert_eq!(rt; space.clear(2, 4, 1), Ok(()));
-    assert_eq!(rt; space.byte(0), Ok(4));
+    dialogue(&rt, space, &there);
+    let expected = [
+        packet(b"D"),
+        says(b"OK"),
+        came(Outcome::NotAllowed),
+        packet(b"D"),
+        says(b"E77"),
+        came(Outcome::NotAllowed),
+        packet(b"D"),
+        came(Outcome::NotAllowed),
+        says(b"03,0000000000000010,77"),
+        packet(b"D"),
+        says(b"OK"),
+        came(Outcome::NotAllowed),
+    ];
+    are(&rt, &slots, &expected);
 }
 
 #[test]
@@ -166,9 +157,8 @@ fn fewer_places_than_calls(rt: HostRuntime) {
     let mut slots = [EMPTY; 3];
     let (owes, space) = left(replay(counting(4), &calls, &mut slots));
     assert!(rt; owes);
-    assert_eq!(rt; space.byte(0), Ok(0xff));
-    assert_eq!(rt; space.byte(1), Ok(1));
-    came(&rt, &slots, &[packet("D"), says("OK"), packet("D")]);
+    dialogue(&rt, space, &[("m0,2", "ff01")]);
+    are(&rt, &slots, &[packet(b"D"), says(b"OK"), packet(b"D")]);
 }
 
 #[test]
@@ -177,9 +167,9 @@ fn more_places_than_calls(rt: HostRuntime) {
     let mut slots = [EMPTY; 4];
     let (owes, space) = left(replay(counting(4), &calls, &mut slots));
     assert!(rt; owes);
-    assert_eq!(rt; space.byte(1), Ok(0xee));
-    let expected = [packet("D"), applies(Ok(1)), UNTOUCHED, UNTOUCHED];
-    came(&rt, &slots, &expected);
+    dialogue(&rt, space, &[("m0,2", "00ee")]);
+    let expected = [packet(b"D"), came(Outcome::Applied(Ok(1))), EMPTY, EMPTY];
+    are(&rt, &slots, &expected);
 }
 
 #[test]
@@ -187,8 +177,8 @@ fn no_calls_or_no_places(rt: HostRuntime) {
     let mut slots = [EMPTY; 1];
     let (owes, _) = left(replay(counting(4), &[], &mut slots));
     assert!(rt; !owes);
-    came(&rt, &slots, &[UNTOUCHED]);
+    are(&rt, &slots, &[EMPTY]);
     let (owes, space) = left(replay(counting(4), &[Call::Apply(&FILE)], &mut []));
     assert!(rt; !owes);
-    assert_eq!(rt; space.byte(1), Ok(1));
+    dialogue(&rt, space, &[("m0,2", "0001")]);
 }

@@ -1,29 +1,25 @@
 use crate::piles::{counting, windowed};
 use crate::talk::{dialogue, framed, reply};
-use packets::REPLY;
 use sessions::Waiting;
 
 // Frames as the protocol's manual and GDB's logs have them, by which the frames of these tests are judged.
 #[test]
 fn frames_of_these_tests(rt: HostRuntime) {
-    let frames = [
-        "$#00",
-        "$OK#9a",
-        "$S05#b8",
-        "$E01#a6",
-        "$41424344#9a",
-        "$mffc,8#00",
-        "$Qaisle.depth:02#3e",
-        "$vMustReplyEmpty#3a",
+    let cases = [
+        ("", "$#00."),
+        ("OK", "$OK#9a."),
+        ("S05", "$S05#b8."),
+        ("E01", "$E01#a6."),
+        ("41424344", "$41424344#9a."),
+        ("mffc,8", "$mffc,8#00."),
+        ("Qaisle.depth:02", "$Qaisle.depth:02#3e."),
+        ("vMustReplyEmpty", "$vMustReplyEmpty#3a."),
     ];
-    for frame in frames {
-        let text = frame.split_once('#').map_or("", |(text, _)| text);
-        let text = text.strip_prefix('$').unwrap_or("");
-        let mut expected = [b'.'; REPLY];
-        for (slot, b) in expected.iter_mut().zip(frame.as_bytes()) {
-            *slot = *b;
-        }
-        assert_eq!(rt; framed(text.as_bytes()), expected, "{frame}");
+    for (text, frame) in cases {
+        assert!(rt;
+            framed(text.as_bytes()).starts_with(frame.as_bytes()),
+            "{text}"
+        );
     }
 }
 

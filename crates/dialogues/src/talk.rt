@@ -34,9 +34,9 @@ pub(crate) fn owing<S: Space + Drop>(
             assert_eq!(rt; heard, payload);
             session
         }
-        Heard::Other { session, item } => {
+        Heard::Other { session, .. } => {
             let _ = session.close();
-            panic!(rt; "{item:?}")
+            panic!(rt; "it is no packet")
         }
     }
 }
