@@ -8,8 +8,8 @@ use Rattle.packets.specs.Items.{unfinished}
 use Rattle.packets.specs.Hearing.{heard}
 use Rattle.packets.proofs.Hearings.{hears}
 use Rattle.serving.specs.Serving.{Served, fresh, Run, behind, serving, all_served}
-use Rattle.serving.specs.Words.{Listens, InPart, Serves, SentInTurn, BreaksOff}
-use Rattle.serving.specs.Reading.{Reads, Keeps, ToTheEnd, InPartOf}
+use Rattle.serving.specs.Words.{Listens, InPart, Serves, ServesAll, SentInTurn, BreaksOff}
+use Rattle.serving.specs.Reading.{Reads, ServedSoFar, ToTheEnd, InPartOf}
 use Rattle.serving.proofs.Serving.{left_unfinished, left_is, in_pieces, pieces}
 use Rattle.serving.proofs.Listening.{appends_nothing, appends_more, in_items}
 
@@ -26,10 +26,10 @@ consumes_more (Some o) (Some p) None xs ys a b = absurd b
 consumes_more (Some o) (Some p) (Some q) xs ys a b = rw (a, b) (sym (append_assoc xs ys q))
 
 module _ (known : Bool) (v : Served) where
-  pub nothing_read : (before old : Option (List ℕ)) → Keeps known v before before old old [] v
+  pub nothing_read : (before old : Option (List ℕ)) → ServedSoFar known v before before old old [] v
   nothing_read before old = record { stream = []; read = consumes_nothing before; sent = appends_nothing old; server = refl; left = refl }
 
-  module _ (before after old new : Option (List ℕ)) (pending : List ℕ) (w : Served) (k : Keeps known v before after old new pending w) where
+  module _ (before after old new : Option (List ℕ)) (pending : List ℕ) (w : Served) (k : ServedSoFar known v before after old new pending w) where
     -- there is always room to read on
     pub room : length pending < 4100
     room =
@@ -39,7 +39,7 @@ module _ (known : Bool) (v : Served) where
 
     -- a piece is read, and all that is whole is served
     pub piece_served : (later : Option (List ℕ)) (more : List ℕ) (some : Bool) (newer : Option (List ℕ)) (used : ℕ) (u : Served)
-        → Reads after later pending more some → Listens known w more new newer used u → Keeps known v before later old newer (drop used more) u
+        → Reads after later pending more some → Listens known w more new newer used u → ServedSoFar known v before later old newer (drop used more) u
     piece_served later more some newer used u r l =
         let so_far : Run = all_served known v k.stream in
         let p = pieces known v k.stream r.piece in
@@ -77,6 +77,10 @@ module _ {X E : Type 0} (known : Bool) (p q : Pile) (w : Served) (before after o
   all_of_it (Err e) t = tt
   all_of_it (Ok x) t = whole before after t.stream t.read t.end (λ stream. Serves known p stream old new q) (record { sent = t.sent; pile = this ∙ ap (λ (u : Served). u.session.pile) t.server })
 
+  pub whatever_comes : (r : Result X E) → OnOk r (ToTheEnd known (fresh p) before after old new w) → OnOk r (ServesAll known p before after old new q)
+  whatever_comes (Err e) t = tt
+  whatever_comes (Ok x) t = record { stream = t.stream; read = t.read; end = t.end; serves = record { sent = t.sent; pile = this ∙ ap (λ (u : Served). u.session.pile) t.server } }
+
   pub all_in_turn : (r : Result X E) → OnOk r (ToTheEnd known (fresh p) before after old new w) → OnOk r (IfSome before (λ stream. SentInTurn known (fresh p) stream old new))
   all_in_turn (Err e) t = tt
   all_in_turn (Ok x) t = whole before after t.stream t.read t.end (λ stream. SentInTurn known (fresh p) stream old new) (in_items known (fresh p) t.stream old new t.sent)
@@ -85,7 +89,3 @@ pub broken_off : {X E : Type 0} (known : Bool) (p q : Pile) (w : Served) (before
     → OnErr r (InPartOf known (fresh p) before after w) → OnErr r (BreaksOff known p before after q)
 broken_off known p q w before after this (Ok x) t = tt
 broken_off known p q w before after this (Err e) t = record { stream = t.stream; read = t.read; server = w; in_part = t.in_part; pile = this }
-
-pub ends : {X E : Type 0} (known : Bool) (v w : Served) (before after old new : Option (List ℕ)) (r : Result X E) → OnOk r (ToTheEnd known v before after old new w) → OnOk r (IsAtEnd after)
-ends known v w before after old new (Err e) t = tt
-ends known v w before after old new (Ok x) t = t.end

@@ -11,7 +11,7 @@ pub record Reads (old new : Option (List ℕ)) (before after : List ℕ) (some :
   pub none : some ≡ false → (piece ≡ []) × IsAtEnd new
 
 -- what was read is served, but for what is pending
-pub record Keeps (known : Bool) (v : Served) (before after old new : Option (List ℕ)) (pending : List ℕ) (w : Served) : Type 0 where
+pub record ServedSoFar (known : Bool) (v : Served) (before after old new : Option (List ℕ)) (pending : List ℕ) (w : Served) : Type 0 where
   pub stream : List ℕ
   pub read : Consumes before after stream
   pub sent : Appends old new (all_served known v stream).sent

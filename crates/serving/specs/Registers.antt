@@ -1,5 +1,5 @@
 use Prim.Native.Char.{code}
-use Rattle.std.specs.Prelude.{◌≡◌, ℕ, Bool, true, false, if◌then◌else◌, List, ◌++◌, drop, replicate, Ok, Err, Result}
+use Rattle.std.specs.Prelude.{◌≡◌, ◌≢◌, ℕ, Bool, true, false, if◌then◌else◌, List, ◌++◌, drop, replicate, codes, Ok, Err, Result}
 use Rattle.spaces.specs.declared.refusal.Refusal.{Refusal}
 use Rattle.packets.specs.Asking.{asked}
 use Rattle.packets.specs.Frames.{framed}
@@ -32,8 +32,13 @@ for_registers_by (Err refusal) = false
 abbrev pub asks_registers : List ℕ → Bool
 asks_registers payload = for_registers_by (asked payload)
 
--- where the payload asks for the registers, their frame is in front of the reply buffer, whose rest is as it was, and this is
--- its length; where it does not, nothing changes
+-- Where the payload asks for the registers, their frame is in front of the reply buffer, whose rest is as it was, and this is
+-- its length. Where it does not, nothing changes.
 pub record MakesPcKnown (payload before after : List ℕ) (old new : ℕ) : Type 0 where
   pub how_many : new ≡ (if asks_registers payload then 332 else old)
   pub buffer : after ≡ (if asks_registers payload then framed registers ++ drop 332 before else before)
+
+-- the same in the protocol's words: `g` asks for them, and nothing else does
+pub record OnlyForG (payload before after : List ℕ) (old new : ℕ) : Type 0 where
+  pub for_g : payload ≡ codes "g" → (new ≡ 332) × (after ≡ framed registers ++ drop 332 before)
+  pub for_others : payload ≢ codes "g" → (new ≡ old) × (after ≡ before)

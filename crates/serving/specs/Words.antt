@@ -1,5 +1,5 @@
 use Rattle.std.specs.Prelude.{◌≡◌, ℕ, ◌-◌, ◌≤◌, Bool, List, ◌++◌, length, take, Option}
-use Rattle.std.specs.Io.KnownBytes.{Appends, Consumes}
+use Rattle.std.specs.Io.KnownBytes.{Appends, Consumes, IsAtEnd}
 use Rattle.spaces.specs.Piles.{Pile}
 use Rattle.packets.specs.Frames.{framed}
 use Rattle.packets.specs.Items.{Heard, said}
@@ -38,6 +38,13 @@ InPart known v received w = (n : ℕ) × (w ≡ (serving known n v received).ser
 pub record Serves (known : Bool) (p : Pile) (stream : List ℕ) (old new : Option (List ℕ)) (q : Pile) : Type 0 where
   pub sent : Appends old new (all_served known (fresh p) stream).sent
   pub pile : q ≡ (all_served known (fresh p) stream).served.session.pile
+
+-- all of an input is, whatever it gives
+pub record ServesAll (known : Bool) (p : Pile) (before after old new : Option (List ℕ)) (q : Pile) : Type 0 where
+  pub stream : List ℕ
+  pub read : Consumes before after stream
+  pub end : IsAtEnd after
+  pub serves : Serves known p stream old new q
 
 -- some of the items in what was read were served over a pile, of which this is left
 pub record BreaksOff (known : Bool) (p : Pile) (before after : Option (List ℕ)) (q : Pile) : Type 0 where

@@ -1,5 +1,5 @@
 ghost use Rattle.std.specs.Prelude.{◌≡◌};
-ghost use Rattle.serving.specs.Registers.{registers, MakesPcKnown};
+ghost use Rattle.serving.specs.Registers.{registers, MakesPcKnown, OnlyForG};
 
 use packets::{Command, REPLY, frame};
 
@@ -22,7 +22,8 @@ fn registers() -> [u8; REGISTERS]
 // GDB 13 gives up on registers of which the program counter is not known. So the reply to a payload that asks for them is
 // replaced by one in which it is. Any other reply stays as it is.
 pub fn with_known_pc(payload: &[u8], reply: &mut [u8; REPLY], count: usize) -> usize
-    ensures { MakesPcKnown payload.now reply.old reply.new count result }
+    ensures is { MakesPcKnown payload.now reply.old reply.new count result }
+    ensures in_words { OnlyForG payload.now reply.old reply.new count result }
 {
     match Command::parse(payload) {
         Ok(Command::Registers) => frame(&registers(), reply).unwrap_or(count),

@@ -1,4 +1,5 @@
-ghost use Rattle.std.specs.Prelude.{◌≡◌, ◌≤◌, ◌<◌, [], drop, length, IfOk, OnErr};
+ghost use Rattle.std.specs.Prelude.{◌≡◌, ◌≤◌, ◌<◌, [], drop, length, IfOk, IfErr, OnErr, ◌≢◌};
+ghost use Rattle.std.specs.IoError.{error_kind};
 ghost use Rattle.std.specs.Io.KnownBytes.{Keeps};
 
 use packets::REPLY;
@@ -36,6 +37,7 @@ impl Received {
         requires { length (pending self.old) < 4100 }
         ensures ok { IfOk result (Reads (R.remaining input.old) (R.remaining input.new) (pending self.old) (pending self.new)) }
         ensures err { OnErr result (Keeps (R.remaining input.old) (R.remaining input.new)) }
+        ensures retried { IfErr result (λ e. error_kind e ≢ ErrorKind.Interrupted) }
     {
         for _ in 0..u64::MAX {
             match input.read(&mut self.bytes[self.count..]) {

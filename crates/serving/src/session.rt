@@ -1,7 +1,6 @@
 ghost use Rattle.std.specs.Prelude.{◌≡◌, IfSome, OnOk, OnErr};
-ghost use Rattle.std.specs.Io.KnownBytes.{IsAtEnd};
 ghost use Rattle.serving.specs.Serving.{fresh};
-ghost use Rattle.serving.specs.Words.{Serves, SentInTurn, BreaksOff};
+ghost use Rattle.serving.specs.Words.{Serves, SentInTurn, ServesAll, BreaksOff};
 
 use crate::received::Received;
 use crate::server::Server;
@@ -36,7 +35,8 @@ impl<S: Space> Server<S> {
     }
 }
 
-// Serves GDB until the end of the input, and gives the pile back. What is left of an unfinished frame is dropped.
+// Serves GDB until the end of the input, and gives the pile back. After each piece that is read, all that is due is written
+// out before the next is read, since GDB waits for it. What is left of an unfinished frame is dropped.
 pub fn serve<S: Space, R: Read, W: Write>(
     space: S,
     known_pc: bool,
@@ -45,8 +45,8 @@ pub fn serve<S: Space, R: Read, W: Write>(
 ) -> (S, io::Result<()>)
     ensures is { OnOk result.1 (IfSome (R.remaining input.old) (λ stream. Serves known_pc (S.Space.meaning space) stream (W.contents output.old) (W.contents output.new) (S.Space.meaning result.0))) }
     ensures in_words { OnOk result.1 (IfSome (R.remaining input.old) (λ stream. SentInTurn known_pc (fresh (S.Space.meaning space)) stream (W.contents output.old) (W.contents output.new))) }
+    ensures all { OnOk result.1 (ServesAll known_pc (S.Space.meaning space) (R.remaining input.old) (R.remaining input.new) (W.contents output.old) (W.contents output.new) (S.Space.meaning result.0)) }
     ensures err { OnErr result.1 (BreaksOff known_pc (S.Space.meaning space) (R.remaining input.old) (R.remaining input.new) (S.Space.meaning result.0)) }
-    ensures end { OnOk result.1 (IsAtEnd (R.remaining input.new)) }
 {
     let (server, result) = Server::new(space, known_pc).run(input, output);
     (server.close(), result)

@@ -1,4 +1,4 @@
-use Rattle.serving.proofs.Running.{all_of_it, all_in_turn, ends, broken_off}
+use Rattle.serving.proofs.Running.{all_of_it, all_in_turn, whatever_comes, broken_off}
 use Rattle.serving.proofs.session.serve.Goals as goal
 
 pub returns-clause-is : goal.returns-clause-is
@@ -10,5 +10,5 @@ returns-clause-in_words g c = all_in_turn _ _ _ _ _ _ _ _ c.close.ensures c.run-
 pub returns-clause-err : goal.returns-clause-err
 returns-clause-err g c = broken_off _ _ _ _ _ _ c.close.ensures c.run-server.result.1 (rw (c.new.ensures.server, c.new.ensures.pc) at c.run-server.ensures.err)
 
-pub returns-clause-end : goal.returns-clause-end
-returns-clause-end g c = ends _ _ _ _ _ _ _ c.run-server.result.1 c.run-server.ensures.ok
+pub returns-clause-all : goal.returns-clause-all
+returns-clause-all g c = whatever_comes _ _ _ _ _ _ _ _ c.close.ensures c.run-server.result.1 (rw (c.new.ensures.server, c.new.ensures.pc) at c.run-server.ensures.ok)
