@@ -4,7 +4,7 @@ use Rattle.spaces.specs.declared.refusal.Refusal.{Refusal}
 use Rattle.packets.specs.Asking.{asked}
 use Rattle.packets.specs.Frames.{framed}
 use Rattle.packets.specs.Commands as commands
-use Rattle.packets.specs.Commands.{Asked, why_halted, read, write, detach, thread, supported, depth, last_fault, unknown}
+use Rattle.packets.specs.Commands.{Asked}
 
 -- The registers with a program counter that is known.
 
@@ -15,15 +15,7 @@ registers = replicate 256 (code "x") ++ (replicate 16 (code "0") ++ replicate 56
 -- whether a payload asks for the registers
 abbrev pub for_registers : Asked → Bool
 for_registers commands.registers = true
-for_registers why_halted = false
-for_registers (read first count) = false
-for_registers (write first digits) = false
-for_registers detach = false
-for_registers thread = false
-for_registers supported = false
-for_registers (depth k) = false
-for_registers last_fault = false
-for_registers unknown = false
+for_registers other = false
 
 abbrev pub for_registers_by : Result Asked Refusal → Bool
 for_registers_by (Ok asked) = for_registers asked
