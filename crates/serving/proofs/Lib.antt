@@ -1,0 +1,5 @@
+pub mod Serving
+pub mod Answering
+pub mod Listening
+pub mod Reading
+pub mod Running

@@ -1,0 +1,5 @@
+use Rattle.serving.proofs.Serving.{enough}
+use Rattle.serving.proofs.laws.few_turns.Goals as goal
+
+pub returns : goal.returns
+returns c known v stream n few = enough known n v stream few

@@ -1,0 +1,5 @@
+pub mod Registers
+pub mod Serving
+pub mod Words
+pub mod Reading
+pub mod Servers

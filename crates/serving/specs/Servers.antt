@@ -1,0 +1,21 @@
+use Rattle.std.specs.Prelude.{ℕ, Bool, List, take}
+use Rattle.spaces.specs.Piles.{Pile}
+use Rattle.sessions.specs.Sessions.{waiting}
+use Rattle.serving.specs.declared.latest.Latest.{Latest}
+use Rattle.serving.specs.declared.received.Received.{Received}
+use Rattle.serving.specs.declared.server.Server.{Server}
+use Rattle.serving.specs.Serving.{Served}
+
+-- what servers of the program are, and their buffers
+
+abbrev pub latest : Latest → List ℕ
+latest l = take l.count l.reply
+
+abbrev pub pending : Received → List ℕ
+pending r = take r.count r.bytes
+
+abbrev pub served : {S : Type 0} → (S → Pile) → Server S → Served
+served meaning s = record { session = waiting meaning s.session; latest = latest s.latest }
+
+abbrev pub knows_pc : {S : Type 0} → Server S → Bool
+knows_pc s = s.known_pc

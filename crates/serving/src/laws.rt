@@ -1,0 +1,18 @@
+ghost use Rattle.serving.specs.Words.{EachItemInTurn, PiecesDoNotMatter, FewTurns};
+
+// What holds of every stream. There is nothing to run: the contracts are theorems.
+
+// What is sent for a stream is what is sent for its items, one behind the other.
+pub fn each_item_in_turn()
+    ensures { EachItemInTurn }
+{}
+
+// In whatever pieces a stream comes, the same is sent.
+pub fn pieces_do_not_matter()
+    ensures { PiecesDoNotMatter }
+{}
+
+// A stream is served whole in as many turns as it has bytes, and more turns change nothing.
+pub fn few_turns()
+    ensures { FewTurns }
+{}
