@@ -1,0 +1,90 @@
+use crate::served::counting;
+use packets::REPLY;
+use serving::{serve, with_known_pc};
+use std::process::Abort;
+
+// 328 letters in a frame, of which 256 to 271 are 0. The sum is 312 times 78 and 16 times 30, and so 40.
+fn known_frame() -> [u8; 332] {
+    let mut frame = [b'x'; 332];
+    frame[0] = b'$';
+    frame[257..273].fill(b'0');
+    frame[329..].copy_from_slice(b"#40");
+    frame
+}
+
+// The same with no letter that is 0. The sum is 328 times 78, and so c0.
+fn unknown_frame() -> [u8; 332] {
+    let mut frame = [b'x'; 332];
+    frame[0] = b'$';
+    frame[329..].copy_from_slice(b"#c0");
+    frame
+}
+
+// A stream and what is sent for it, where it begins with a frame behind `+`.
+fn sends(
+    rt: &(impl Abort + AllocGlobal),
+    known_pc: bool,
+    stream: &[u8],
+    frame: &[u8],
+    more: &[u8],
+) {
+    let mut input = stream;
+    let mut output = Vec::new(rt.alloc());
+    let (_, result) = serve(counting(16), known_pc, &mut input, &mut output);
+    assert!(rt; result.is_ok());
+    let rest = output
+        .strip_prefix(b"+")
+        .and_then(|sent| sent.strip_prefix(frame));
+    assert!(rt; rest == Some(more), "{output:?}");
+}
+
+#[test]
+fn registers(rt: HostRuntime) {
+    sends(&rt, true, b"$g#67", &known_frame(), b"");
+    sends(&rt, false, b"$g#67", &unknown_frame(), b"");
+}
+
+// The latest reply is the one that was sent.
+#[test]
+fn registers_again(rt: HostRuntime) {
+    sends(&rt, true, b"$g#67-", &known_frame(), &known_frame());
+    sends(&rt, false, b"$g#67-", &unknown_frame(), &unknown_frame());
+    sends(
+        &rt,
+        true,
+        b"$g#67$?#3f-",
+        &known_frame(),
+        b"+$S05#b8$S05#b8",
+    );
+}
+
+// No other reply is changed.
+#[test]
+fn other_replies(rt: HostRuntime) {
+    sends(&rt, true, b"$?#3f$gg#ce", b"$S05#b8", b"+$#00");
+    sends(&rt, true, b"$m0,2#fb$D#44", b"$0001#c1", b"+$OK#9a");
+    sends(&rt, true, b"$mzz#61$g#66", b"$E22#a9", b"-");
+}
+
+// What is behind the reply in its buffer is kept.
+#[test]
+fn the_buffer(rt: HostRuntime) {
+    let mut expected = [b'.'; REPLY];
+    expected[..332].copy_from_slice(&known_frame());
+    let mut reply = [b'.'; REPLY];
+    assert!(rt; with_known_pc(b"g", &mut reply, 7) == 332);
+    assert!(rt; reply == expected);
+}
+
+fn keeps(rt: &impl Abort, payload: &[u8]) {
+    let mut reply = [b'.'; REPLY];
+    assert!(rt; with_known_pc(payload, &mut reply, 7) == 7);
+    assert!(rt; reply == [b'.'; REPLY]);
+}
+
+#[test]
+fn other_buffers(rt: HostRuntime) {
+    for payload in ["", "?", "gg", "G", "p10", "mzz"] {
+        keeps(&rt, payload.as_bytes());
+    }
+}
