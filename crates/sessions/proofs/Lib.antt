@@ -9,3 +9,4 @@ pub mod Saying
 pub mod Ending
 pub mod Underway
 pub mod Transcripts
+pub mod Deciding

@@ -8,3 +8,4 @@ pub mod Promises
 pub mod Sessions
 pub mod Texts
 pub mod Replays
+pub mod Laws

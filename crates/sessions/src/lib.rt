@@ -4,6 +4,7 @@
 mod answering;
 mod call;
 mod heard;
+mod laws;
 mod owing;
 mod replaying;
 mod session;
@@ -12,6 +13,10 @@ mod waiting;
 
 pub use call::{Call, Outcome, Slot};
 pub use heard::Heard;
+pub use laws::{
+    every_last_fault_arose, every_write_off_the_trail_keeps_the_reply,
+    what_is_kept_leaves_nothing_open,
+};
 pub use owing::Owing;
 pub use replaying::{Stage, replay};
 pub use waiting::Waiting;

@@ -1,0 +1,18 @@
+ghost use Rattle.sessions.specs.Laws.{WhatIsKeptLeavesNothingOpen, EveryLastFaultArose, EveryWriteOffTheTrailKeepsTheReply};
+
+// What follows from what a session keeps, and from nothing else. There is nothing to run: each contract is a theorem.
+
+// A history leads to one session, and leaves one frame to each accepted read and to each question for the last fault.
+pub fn what_is_kept_leaves_nothing_open()
+    ensures { WhatIsKeptLeavesNothingOpen }
+{}
+
+// A last fault arose where it says, under the patches of a read that was made.
+pub fn every_last_fault_arose()
+    ensures { EveryLastFaultArose }
+{}
+
+// A read is answered as before after a write that touches no patch on its trail.
+pub fn every_write_off_the_trail_keeps_the_reply()
+    ensures { EveryWriteOffTheTrailKeepsTheReply }
+{}
