@@ -27,9 +27,13 @@ abbrev pub answer_by : Result (List Mark) Stopped → Pile → Result ℕ Stoppe
 answer_by (Ok marks) p = told_by 0 marks p
 answer_by (Err stopped) p = Err stopped
 
+-- the edits that take effect: none of a malformed file's
+abbrev pub filed : Result (List Mark) Stopped → List Mark
+filed (Ok marks) = marks
+filed (Err stopped) = []
+
 abbrev pub left_of : Result (List Mark) Stopped → Pile → Pile
-left_of (Ok marks) p = left_by marks p
-left_of (Err stopped) p = p
+left_of r p = left_by (filed r) p
 
 -- what applying a file to a pile answers and leaves
 pub record Applies (old new : Pile) (file : List ℕ) (r : Result ℕ Stopped) : Type 0 where

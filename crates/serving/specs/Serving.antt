@@ -1,8 +1,9 @@
-use Rattle.std.specs.Prelude.{ℕ, zero, suc, Bool, ◌&&◌, if◌then◌else◌, List, [], ◌∷◌, ◌++◌, length, drop, codes, None}
+use Rattle.std.specs.Prelude.{ℕ, zero, suc, Bool, ◌&&◌, if◌then◌else◌, List, [], ◌∷◌, ◌++◌, length, drop, codes}
 use Rattle.spaces.specs.Piles.{Pile}
 use Rattle.packets.specs.Frames.{framed}
 use Rattle.packets.specs.Items.{Heard, unfinished, resend, ignored, wrong_sum, no_end, packet, said}
 use Rattle.packets.specs.Hearing.{heard}
+use Rattle.sessions.specs.States as states
 use Rattle.sessions.specs.States.{State}
 use Rattle.sessions.specs.Answers.{reply, after}
 use Rattle.serving.specs.Registers.{registers, asks_registers}
@@ -16,7 +17,7 @@ pub record Served : Type 0 where
 
 -- a new one over a pile
 abbrev pub fresh : Pile → Served
-fresh p = record { session = record { pile = p; depth = 0; last = None }; latest = [] }
+fresh p = record { session = states.fresh p; latest = [] }
 
 -- what is replied to a payload
 abbrev pub replied : Bool → State → List ℕ → List ℕ

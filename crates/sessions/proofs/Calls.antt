@@ -1,13 +1,9 @@
-use Rattle.std.proofs.Common.{◌≡◌, ℕ, List, take, drop, Ok, Err, Result, refl, sym, ◌∙◌, take_at}
-use Rattle.spaces.specs.Piles.{Pile}
+use Rattle.std.proofs.Common.{◌≡◌, ℕ, List, take, drop, Result, sym, take_at}
 use Rattle.packets.specs.Frames.{framed}
 use Rattle.patchfiles.specs.declared.stopped.Stopped.{Stopped}
-use Rattle.patchfiles.specs.Files as files
-use Rattle.patchfiles.specs.Runs.{Mark, left_by}
 use Rattle.sessions.specs.States.{State}
 use Rattle.sessions.specs.Answers.{reply, Answers, AppliesTo}
 use Rattle.sessions.specs.Histories.{Event, heard, answered, applied}
-use Rattle.sessions.specs.Books.{filed}
 use Rattle.sessions.specs.Promises.{Keeps}
 use Rattle.sessions.proofs.Keeping.{stepped, Right, kept_more}
 
@@ -22,9 +18,5 @@ keeps_heard s t received q = step_keeps s t (heard received) tt q
 pub keeps_answered : (s t : State) (payload old new : List ℕ) (n : ℕ) → Answers s payload old new n t → Keeps s (answered payload (take n new)) t
 keeps_answered s t payload old new n a = step_keeps s t (answered payload (take n new)) (rw a.buffer_is (take_at (framed (reply s payload)) (drop n old) n (sym a.how_many))) a.session
 
-left : (r : Result (List Mark) Stopped) (p : Pile) → files.left_of r p ≡ left_by (filed r) p
-left (Ok ms) p = refl
-left (Err stopped) p = refl
-
 pub keeps_applied : (s t : State) (file : List ℕ) (r : Result ℕ Stopped) → AppliesTo s file r t → Keeps s (applied file r) t
-keeps_applied s t file r a = step_keeps s t (applied file r) tt (let pile = left (files.asked file) s.pile in a.session ∙ (λ i. record { pile = pile i; depth = s.depth; last = s.last }))
+keeps_applied s t file r a = step_keeps s t (applied file r) tt a.session

@@ -1,6 +1,5 @@
 use Rattle.std.proofs.Common.{◌≡◌, ℕ, List, ◌∷◌, ◌⊎◌, Some, None, Ok, Option, refl, sym, ap, ◌∙◌, inl, inr, arith}
 use Rattle.spaces.specs.declared.fault.Fault.{Fault}
-use Rattle.spaces.specs.Maps.{Map}
 use Rattle.spaces.specs.Reads.{Got, got}
 use Rattle.spaces.specs.Piles.{Pile, shown}
 use Rattle.packets.specs.Asking.{asked}
@@ -14,7 +13,7 @@ use Rattle.sessions.specs.Histories.{Event, answered, History, Earlier, same, be
 use Rattle.sessions.specs.Books.{marks, book, in_force, Takes}
 use Rattle.sessions.specs.Promises as promised
 use Rattle.sessions.specs.Promises.{Read, since, Met, LastFault, never, Kept, Change}
-use Rattle.sessions.specs.Laws.{WhatIsKeptLeavesNothingOpen, EveryLastFaultArose, OffTheTrail, EveryWriteOffTheTrailKeepsTheReply}
+use Rattle.sessions.specs.Laws.{WhatIsKeptLeavesNothingOpen, EveryLastFaultArose, OffTheTrail}
 use Rattle.sessions.proofs.Showing.{got_shows}
 use Rattle.sessions.proofs.Histories.{earlier_cases, earlier_shorter}
 use Rattle.sessions.proofs.Keeping.{kept_more}

@@ -13,7 +13,7 @@ use Rattle.packets.specs.Asking.{asked}
 use Rattle.packets.specs.Frames.{framed}
 use Rattle.packets.specs.Commands.{Asked, why_halted, read, write, registers, detach, thread, supported, depth, last_fault, unknown}
 use Rattle.patchfiles.specs.Runs.{left_by}
-use Rattle.sessions.specs.States.{State}
+use Rattle.sessions.specs.States.{State, fresh}
 use Rattle.sessions.specs.Effects.{at_most, asked_for, met_by}
 use Rattle.sessions.specs.Answers.{spoken, read_text, reply, latest}
 use Rattle.sessions.specs.Histories.{Event, heard, answered, applied, History, Earlier, same, before}
@@ -192,7 +192,7 @@ module _ (p : Pile) (h : History) (s : State) (e : Event) (k : Kept p h s) (righ
     lawful = k.lawful;
   }
 
-pub kept_new : (p : Pile) → Lawful p → Kept p [] (record { pile = p; depth = 0; last = None })
+pub kept_new : (p : Pile) → Lawful p → Kept p [] (fresh p)
 kept_new p l = record {
   replies = λ r. absurd (nothing_earlier r.there);
   last = never (λ r. absurd (nothing_earlier r.there));

@@ -4,7 +4,7 @@ use Rattle.sessions.specs.States.{State}
 use Rattle.sessions.specs.Histories.{History}
 use Rattle.sessions.specs.Answers.{after, applied_to}
 use Rattle.sessions.specs.Promises.{Kept}
-use Rattle.sessions.specs.Replays.{Call, hear, answer, apply, Place, Stand, Played, played, played_by, replayed, event, transcript, fresh, KeptAllAlong}
+use Rattle.sessions.specs.Replays.{Call, hear, answer, apply, Place, Stand, Played, played, played_by, replayed, event, transcript, begun, KeptAllAlong}
 use Rattle.sessions.proofs.Keeping.{kept_new}
 use Rattle.sessions.proofs.Calls.{keeps_heard, keeps_answered, keeps_applied}
 
@@ -36,8 +36,8 @@ module _ (p : Pile) where
   first_calls (suc n) h g (c ∷ cs) [] = refl
   first_calls (suc n) h g (c ∷ cs) (place ∷ places) = first_calls n (event c (played g c place).place.outcome (played g c place).place.frame h) (played g c place).stand cs places
 
-  pub kept_all_along : Lawful p → (cs : List Call) (before after : List Place) → after ≡ (replayed (fresh p) cs before).0 → KeptAllAlong p cs before after
+  pub kept_all_along : Lawful p → (cs : List Call) (before after : List Place) → after ≡ (replayed (begun p) cs before).0 → KeptAllAlong p cs before after
   kept_all_along l cs old new q n =
-      subst (λ places. Kept p (transcript [] (take n cs) places) (replayed (fresh p) (take n cs) old).1.state) (sym q)
-      (subst (λ h. Kept p h (replayed (fresh p) (take n cs) old).1.state) (first_calls n [] (fresh p) cs old)
-      (kept_to_the_end [] (fresh p) (take n cs) old (kept_new p l)))
+      subst (λ places. Kept p (transcript [] (take n cs) places) (replayed (begun p) (take n cs) old).1.state) (sym q)
+      (subst (λ h. Kept p h (replayed (begun p) (take n cs) old).1.state) (first_calls n [] (begun p) cs old)
+      (kept_to_the_end [] (begun p) (take n cs) old (kept_new p l)))

@@ -1,8 +1,7 @@
-use Rattle.std.specs.Prelude.{ℕ, List, [], ◌∷◌, None, Ok, Err, Result, ◌≡◌}
+use Rattle.std.specs.Prelude.{ℕ, List, [], ◌∷◌, None, ◌≡◌}
 use Rattle.spaces.specs.Piles.{Pile}
 use Rattle.packets.specs.Asking.{asked}
 use Rattle.patchfiles.specs.Files as files
-use Rattle.patchfiles.specs.declared.stopped.Stopped.{Stopped}
 use Rattle.patchfiles.specs.Runs.{Mark, refused, marked, left_by}
 use Rattle.sessions.specs.Effects.{written_by, deepened_by}
 use Rattle.sessions.specs.Histories.{Event, heard, answered, applied, History}
@@ -10,14 +9,10 @@ use Rattle.sessions.specs.Histories.{Event, heard, answered, applied, History}
 -- The patch book is fed the payloads answered and the files applied, and nothing else: neither replies nor outcomes.
 
 -- the edits that an event asks for, at an edit depth
-abbrev pub filed : Result (List Mark) Stopped → List Mark
-filed (Ok marks) = marks
-filed (Err stopped) = []
-
 abbrev pub marks : ℕ → Event → List Mark
 marks d (heard received) = []
 marks d (answered payload frame) = written_by d (asked payload)
-marks d (applied file outcome) = filed (files.asked file)
+marks d (applied file outcome) = files.filed (files.asked file)
 
 abbrev pub depth_after : ℕ → Event → ℕ
 depth_after d (heard received) = d

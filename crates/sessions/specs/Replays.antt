@@ -1,4 +1,4 @@
-use Rattle.std.specs.Prelude.{◌≡◌, ℕ, Bool, true, false, List, [], ◌∷◌, ◌++◌, length, take, drop, None, Result}
+use Rattle.std.specs.Prelude.{◌≡◌, ℕ, Bool, true, false, List, [], ◌∷◌, ◌++◌, length, take, drop, Result}
 use Rattle.spaces.specs.Piles.{Pile}
 use Rattle.packets.specs.Items as items
 use Rattle.packets.specs.Hearing as hearing
@@ -12,7 +12,7 @@ use Rattle.sessions.specs.declared.call.Outcome.TheVariants as came_of
 use Rattle.sessions.specs.declared.call.Slot as places
 use Rattle.sessions.specs.declared.replaying.Stage.{Stage}
 use Rattle.sessions.specs.declared.replaying.Stage.TheVariants.{Waits, Owes}
-use Rattle.sessions.specs.States.{State}
+use Rattle.sessions.specs.States.{State, fresh}
 use Rattle.sessions.specs.Answers.{reply, after, applied_to}
 use Rattle.sessions.specs.Histories as events
 use Rattle.sessions.specs.Histories.{History}
@@ -115,14 +115,14 @@ transcript h (c ∷ cs) [] = h
 transcript h (c ∷ cs) (place ∷ places) = transcript (event c place.outcome place.frame h) cs places
 
 -- a new session over a pile
-abbrev pub fresh : Pile → Stand
-fresh p = record { owes = false; state = record { pile = p; depth = 0; last = None } }
+abbrev pub begun : Pile → Stand
+begun p = record { owes = false; state = fresh p }
 
 -- what a replay over a pile leaves
 pub record Replays (p : Pile) (cs : List Call) (before after : List Place) (new : Stand) : Type 0 where
-  pub places : after ≡ (replayed (fresh p) cs before).0
-  pub stand : new ≡ (replayed (fresh p) cs before).1
+  pub places : after ≡ (replayed (begun p) cs before).0
+  pub stand : new ≡ (replayed (begun p) cs before).1
 
 -- the whole promise, at every point of the run
 abbrev pub KeptAllAlong : Pile → List Call → List Place → List Place → Type 0
-KeptAllAlong p cs before after = (n : ℕ) → Kept p (transcript [] (take n cs) after) (replayed (fresh p) (take n cs) before).1.state
+KeptAllAlong p cs before after = (n : ℕ) → Kept p (transcript [] (take n cs) after) (replayed (begun p) (take n cs) before).1.state

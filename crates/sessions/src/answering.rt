@@ -18,6 +18,9 @@ const READ: usize = 2_048;
 // One more than there can be patches: so many bytes decide whether a write is refused.
 const WRITE: usize = 257;
 
+// How many letters tell that no register is known.
+const REGISTERS: usize = 328;
+
 impl<S: Space> Session<S> {
     fn read(&mut self, first: u64, count: u64, text: &mut [u8; PAYLOAD]) -> usize
         requires { first + count ≤ 2 ^ 64 }
@@ -48,7 +51,7 @@ impl<S: Space> Session<S> {
             Command::WhyHalted => say(b"S05", text),
             Command::Read { first, count } => self.read(first, count, text),
             Command::Write { first, digits } => self.write(first, digits, text),
-            Command::Registers => say(&[b'x'; 328], text),
+            Command::Registers => say(&[b'x'; REGISTERS], text),
             Command::Detach | Command::Thread => say(b"OK", text),
             Command::Supported => say(b"PacketSize=1000", text),
             Command::Depth(depth) => {

@@ -1,4 +1,5 @@
-ghost use Rattle.std.specs.Prelude.{◌≡◌, [], None};
+ghost use Rattle.std.specs.Prelude.{◌≡◌, []};
+ghost use Rattle.sessions.specs.States.{fresh};
 ghost use Rattle.sessions.specs.Answers.{AppliesTo};
 ghost use Rattle.sessions.specs.Histories.{heard, applied};
 ghost use Rattle.sessions.specs.Promises.{Kept, Keeps};
@@ -18,7 +19,7 @@ pub struct Waiting<S> {
 
 impl<S: Space> Waiting<S> {
     pub fn new(space: S) -> Self
-        ensures is { waiting S.Space.meaning result ≡ record { pile = S.Space.meaning space; depth = 0; last = None } }
+        ensures is { waiting S.Space.meaning result ≡ fresh (S.Space.meaning space) }
         ensures kept { Kept (S.Space.meaning space) [] (waiting S.Space.meaning result) }
     {
         Waiting {
