@@ -7,7 +7,7 @@ use Rattle.packets.specs.Streams.{Begins, nothing, no_hash_yet, no_digits_yet, m
 use Rattle.packets.proofs.Hearings.{hears}
 
 -- whatever is whole uses something
-uses : (s : List ℕ) (item : Heard) (rest : List ℕ) → Begins s item rest → item ≢ unfinished → 0 < (said item).used
+pub uses : (s : List ℕ) (item : Heard) (rest : List ℕ) → Begins s item rest → item ≢ unfinished → 0 < (said item).used
 uses s item rest nothing n = absurd (n refl)
 uses s item rest (no_hash_yet bytes p) n = absurd (n refl)
 uses s item rest (no_digits_yet payload digits p l) n = absurd (n refl)
@@ -57,7 +57,7 @@ module _ (s : List ℕ) (item : Heard) (t : Hears s item) (whole : item ≢ unfi
     in_order = u.in_order ∙ drop-drop (used_by u.items) (said item).used s ∙ rw (used_more u.items) refl;
   }
 
-whole_or_not : (item : Heard) → (item ≡ unfinished) ⊎ (item ≢ unfinished)
+pub whole_or_not : (item : Heard) → (item ≡ unfinished) ⊎ (item ≢ unfinished)
 whole_or_not unfinished = inl refl
 whole_or_not resend = inr (λ e. cc)
 whole_or_not ignored = inr (λ e. cc)

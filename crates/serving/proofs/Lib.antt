@@ -3,3 +3,4 @@ pub mod Answering
 pub mod Listening
 pub mod Reading
 pub mod Running
+pub mod Histories

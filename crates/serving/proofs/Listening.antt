@@ -7,7 +7,8 @@ use Rattle.packets.specs.Hearing.{heard}
 use Rattle.packets.proofs.Hearings.{hears}
 use Rattle.serving.specs.Serving.{Served, Turn, sends, Run, behind, serving, all_served}
 use Rattle.serving.specs.Words.{Turns, Listens, InPart, SentInTurn}
-use Rattle.serving.proofs.Serving.{whole_or_not, whole_uses, split, turn, all_done, each_item}
+use Rattle.packets.proofs.Streaming.{whole_or_not}
+use Rattle.serving.proofs.Serving.{whole_uses, split, turn, all_done, each_item}
 
 -- Items of the bytes received that are served one behind the other.
 

@@ -1,32 +1,15 @@
-use Rattle.std.proofs.Common.{◌≡◌, ◌≢◌, ℕ, zero, suc, ◌+◌, ◌-◌, ◌<◌, ◌≤◌, Bool, List, [], ◌∷◌, ◌++◌, length, drop, refl, sym, subst, ap, ◌∙◌, ◌⊎◌, inl, inr, arith, append_assoc, zero-add}
+use Rattle.std.proofs.Common.{◌≡◌, ◌≢◌, ℕ, zero, suc, ◌+◌, ◌-◌, ◌<◌, ◌≤◌, Bool, List, [], ◌∷◌, ◌++◌, length, drop, refl, sym, subst, ap, ◌∙◌, inl, inr, arith, append_assoc, zero-add}
 use Rattle.std.proofs.lemmas.List.{length-drop, drop-drop, append-nil}
 use Rattle.packets.specs.Items.{Heard, unfinished, resend, ignored, wrong_sum, no_end, packet, said}
 use Rattle.packets.specs.Hearing.{heard}
-use Rattle.packets.specs.Streams.{Begins, nothing, no_hash_yet, no_digits_yet, minus, other, wrong, endless, good, Runs, ends, goes_on}
+use Rattle.packets.specs.Streams.{Runs, ends, goes_on}
 use Rattle.packets.proofs.Hearings.{hears}
+use Rattle.packets.proofs.Streaming.{uses, whole_or_not}
 use Rattle.serving.specs.Serving.{Served, Turn, sends, Run, stopped, behind, then_on, begun, serving, all_served, in_turn}
 
 -- Streams that are served: in pieces, and item by item.
 
-pub whole_or_not : (item : Heard) → (item ≡ unfinished) ⊎ (item ≢ unfinished)
-whole_or_not unfinished = inl refl
-whole_or_not resend = inr (λ e. cc)
-whole_or_not ignored = inr (λ e. cc)
-whole_or_not (wrong_sum used) = inr (λ e. cc)
-whole_or_not no_end = inr (λ e. cc)
-whole_or_not (packet payload) = inr (λ e. cc)
-
 -- whatever is whole uses something
-uses : (s : List ℕ) (item : Heard) (rest : List ℕ) → Begins s item rest → item ≢ unfinished → 0 < (said item).used
-uses s item rest nothing n = absurd (n refl)
-uses s item rest (no_hash_yet bytes p) n = absurd (n refl)
-uses s item rest (no_digits_yet payload digits p l) n = absurd (n refl)
-uses s item rest (minus r) n = omega arith
-uses s item rest (other b r h k) n = omega arith
-uses s item rest (wrong payload high low r p l) n = omega arith
-uses s item rest (endless bytes r h k) n = omega arith
-uses s item rest (good payload high low r p l) n = omega arith
-
 pub whole_uses : (s : List ℕ) → heard s ≢ unfinished → 0 < (said (heard s)).used
 whole_uses s n = uses s (heard s) _ (hears s).begins n
 

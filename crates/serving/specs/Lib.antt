@@ -3,3 +3,4 @@ pub mod Serving
 pub mod Words
 pub mod Reading
 pub mod Servers
+pub mod Histories

@@ -1,4 +1,5 @@
 ghost use Rattle.serving.specs.Words.{EachItemInTurn, PiecesDoNotMatter, FewTurns};
+ghost use Rattle.serving.specs.Histories.{EveryServedSessionIsKept};
 
 // What holds of every stream. There is nothing to run: the contracts are theorems.
 
@@ -15,4 +16,9 @@ pub fn pieces_do_not_matter()
 // A stream is served whole in as many turns as it has bytes, and more turns change nothing.
 pub fn few_turns()
     ensures { FewTurns }
+{}
+
+// The session of a server keeps its whole promise, whatever the stream and however much of it has been served.
+pub fn every_served_session_is_kept()
+    ensures { EveryServedSessionIsKept }
 {}

@@ -6,9 +6,9 @@ mod laws;
 mod pc;
 mod received;
 mod server;
-mod session;
+mod to_end;
 
-pub use laws::{each_item_in_turn, few_turns, pieces_do_not_matter};
+pub use laws::{each_item_in_turn, every_served_session_is_kept, few_turns, pieces_do_not_matter};
 pub use pc::with_known_pc;
 pub use server::Server;
-pub use session::serve;
+pub use to_end::serve;

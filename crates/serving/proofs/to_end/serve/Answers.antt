@@ -1,5 +1,5 @@
 use Rattle.serving.proofs.Running.{all_of_it, all_in_turn, whatever_comes, broken_off}
-use Rattle.serving.proofs.session.serve.Goals as goal
+use Rattle.serving.proofs.to_end.serve.Goals as goal
 
 pub returns-clause-is : goal.returns-clause-is
 returns-clause-is g c = all_of_it _ _ _ _ _ _ _ _ c.close.ensures c.run-server.result.1 (rw (c.new.ensures.server, c.new.ensures.pc) at c.run-server.ensures.ok)
