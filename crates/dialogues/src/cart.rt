@@ -5,7 +5,12 @@ use std::alloc::AllocError;
 use std::test::Fail;
 
 // A range of a LiME file: magic, version, first and last address, eight zeros, and its bytes.
-fn range(file: &mut Vec<u8>, first: u64, last: u64, bytes: &[u8]) -> Result<(), AllocError> {
+pub(crate) fn range(
+    file: &mut Vec<u8>,
+    first: u64,
+    last: u64,
+    bytes: &[u8],
+) -> Result<(), AllocError> {
     file.extend_from_slice(b"EMiL\x01\0\0\0")?;
     file.extend_from_slice(&first.to_le_bytes())?;
     file.extend_from_slice(&last.to_le_bytes())?;

@@ -5,6 +5,8 @@
 #[cfg(test)]
 mod cart;
 #[cfg(test)]
+mod dumps;
+#[cfg(test)]
 mod faults;
 #[cfg(test)]
 mod files;

@@ -1,8 +1,9 @@
 // The engineers' day over the sample cart, as a replay of a session's calls.
 
+use crate::tell::tell_text;
 use carts::{RANGES, load_cart};
 use images::LimeRange;
-use packets::Item;
+use packets::{Item, REPLY};
 use patchfiles::Stopped;
 use sessions::{Call, Outcome, Slot, Stage, replay};
 use spaces::Space;
@@ -24,11 +25,11 @@ pub(crate) fn replay_day(rt: &HostRuntime) -> io::Result<()> {
 }
 
 // They read over the end of a page, ask for the fault, give the next page its entry, apply patch files, and read again.
-fn tell_day<S: Space + Drop>(
+fn tell_day<'f, S: Space + Drop>(
     rt: &HostRuntime,
     cart: S,
-    costs: &[u8],
-    early: &[u8],
+    costs: &'f [u8],
+    early: &'f [u8],
 ) -> io::Result<()> {
     let calls: [Call<'_>; CALLS] = [
         Call::Hear(b"+$mffc,8#00"),
@@ -99,10 +100,7 @@ fn tell_outcome(rt: &HostRuntime, slot: &Slot<'_>) -> io::Result<()> {
         Outcome::NotAllowed => println!(rt; "not allowed now"),
         Outcome::Heard(item) => tell_heard(rt, item),
         Outcome::Answered(count) => {
-            for b in slot.reply.iter().take(count) {
-                let c = char::from(*b);
-                print!(rt; "{c}")?;
-            }
+            tell_text(rt, &slot.reply[..count.min(REPLY)])?;
             println!(rt; "")
         }
         Outcome::Applied(applied) => tell_applied(rt, applied),
@@ -129,12 +127,4 @@ fn tell_applied(rt: &HostRuntime, applied: Result<usize, Stopped>) -> io::Result
             println!(rt; "refused {refusal} at record {index}")
         }
     }
-}
-
-fn tell_text(rt: &HostRuntime, text: &[u8]) -> io::Result<()> {
-    for b in text {
-        let c = char::from(*b);
-        print!(rt; "{c}")?;
-    }
-    Ok(())
 }

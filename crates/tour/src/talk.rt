@@ -1,5 +1,6 @@
 // What GDB sends, heard item by item, and what is asked for.
 
+use crate::tell::tell_text;
 use packets::{Command, Item, REPLY, digits, frame, hear};
 use spaces::Refusal;
 use std::{fs, io};
@@ -86,12 +87,4 @@ fn tell_frame(rt: &HostRuntime, payload: &[u8]) -> io::Result<()> {
         tell_text(rt, &reply[..count])?;
     }
     println!(rt; "")
-}
-
-fn tell_text(rt: &HostRuntime, text: &[u8]) -> io::Result<()> {
-    for b in text {
-        let c = char::from(*b);
-        print!(rt; "{c}")?;
-    }
-    Ok(())
 }

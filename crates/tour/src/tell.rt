@@ -118,3 +118,12 @@ pub(crate) fn tell_fill<S: Space>(rt: &HostRuntime, space: &S, first: u64) -> io
         Some(fault) => println!(rt; ", then no byte: {fault}"),
     }
 }
+
+// Bytes as their characters.
+pub(crate) fn tell_text(rt: &HostRuntime, text: &[u8]) -> io::Result<()> {
+    for b in text {
+        let c = char::from(*b);
+        print!(rt; "{c}")?;
+    }
+    Ok(())
+}

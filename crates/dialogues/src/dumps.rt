@@ -1,0 +1,97 @@
+use crate::cart::range;
+use crate::talk::dialogue;
+use carts::{RANGES, cr3_in, load_cart};
+use images::LimeRange;
+use spaces::Refusal;
+use std::test::Fail;
+
+// CR3 is the first eight bytes, the lowest first, and those that are missing are zeros.
+#[test]
+fn roots_of_every_length(rt: HostRuntime) {
+    let root = [1, 2, 3, 4, 5, 6, 7, 8, 9, 10];
+    let first = [
+        0,
+        0x01,
+        0x0201,
+        0x03_0201,
+        0x0403_0201,
+        0x05_0403_0201,
+        0x0605_0403_0201,
+        0x07_0605_0403_0201,
+    ];
+    for (n, cr3) in first.iter().enumerate() {
+        assert_eq!(rt; cr3_in(&root[..n]), *cr3);
+    }
+    for n in 8..=root.len() {
+        assert_eq!(rt; cr3_in(&root[..n]), 0x0807_0605_0403_0201);
+    }
+}
+
+// A dump of 0x10000 addresses, whose last 32 bytes lie behind the first 65,536 of its file. Its tables lead each address to
+// itself, by a page of 1 GiB.
+#[test]
+fn the_first_65536_bytes_count(rt: HostRuntime) -> Result<(), Fail> {
+    let mut bytes = [0; 0x1_0000];
+    bytes[0] = 0x03;
+    bytes[1] = 0x10;
+    bytes[0x1000] = 0x83;
+    bytes[0xffdf] = 0x77;
+    bytes[0xffe0] = 0x78;
+    let mut dump = Vec::new(rt.alloc());
+    range(&mut dump, 0, 0xffff, &bytes)?;
+    let mut memory = [LimeRange::default(); RANGES];
+    let cart = load_cart(&dump, b"", &mut memory)?;
+    dialogue(
+        &rt,
+        cart,
+        &[
+            ("mffde,4", "0077"),
+            ("qaisle.fault", "03,000000000000ffe0,02"),
+            ("mffe0,1", "E02"),
+            ("m10000,1", "E01"),
+        ],
+    );
+    Ok(())
+}
+
+// So many ranges of one address each.
+fn ranges(rt: &HostRuntime, count: u64) -> Result<Option<Refusal>, Fail> {
+    let mut dump = Vec::new(rt.alloc());
+    for n in 0..count {
+        range(&mut dump, 16 * n, 16 * n, b"\x5a")?;
+    }
+    let mut memory = [LimeRange::default(); RANGES];
+    Ok(load_cart(&dump, b"", &mut memory).err())
+}
+
+#[test]
+fn at_most_64_ranges(rt: HostRuntime) -> Result<(), Fail> {
+    assert_eq!(rt; ranges(&rt, 63)?, None);
+    assert_eq!(rt; ranges(&rt, 64)?, None);
+    assert_eq!(rt; ranges(&rt, 65)?, Some(Refusal::TableFull));
+    Ok(())
+}
+
+// Both overlays of a cart take patches, its paging and its dump none.
+#[test]
+fn an_empty_dump(rt: HostRuntime) -> Result<(), Fail> {
+    let mut memory = [LimeRange::default(); RANGES];
+    let cart = load_cart(b"", b"", &mut memory)?;
+    dialogue(
+        &rt,
+        cart,
+        &[
+            ("m0,1", "E01"),
+            ("qaisle.fault", "03,0000000000000000,01"),
+            ("M0,1:5a", "OK"),
+            ("m0,2", "5a"),
+            ("Qaisle.depth:01", "OK"),
+            ("M0,1:00", "E26"),
+            ("Qaisle.depth:02", "OK"),
+            ("M0,1:00", "OK"),
+            ("Qaisle.depth:03", "OK"),
+            ("M0,1:00", "E26"),
+        ],
+    );
+    Ok(())
+}
