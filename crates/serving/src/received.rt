@@ -32,7 +32,8 @@ impl Received {
         &self.bytes[..self.count]
     }
 
-    // Reads a piece behind them, unless the input is at its end, and tells which. A read that is interrupted is tried again.
+    // Reads a piece behind them, unless the input is at its end, and tells which. A read that is interrupted is tried again, up
+    // to 2^64 - 1 times.
     pub(crate) fn read<R: Read>(&mut self, input: &mut R) -> io::Result<bool>
         requires { length (pending self.old) < 4100 }
         ensures ok { IfOk result (Reads (R.remaining input.old) (R.remaining input.new) (pending self.old) (pending self.new)) }

@@ -1,4 +1,4 @@
-ghost use Rattle.std.specs.Prelude.{◌≡◌, IfSome, OnOk, OnErr};
+ghost use Rattle.std.specs.Prelude.{IfSome, OnOk, OnErr};
 ghost use Rattle.serving.specs.Serving.{fresh};
 ghost use Rattle.serving.specs.Words.{Serves, SentInTurn, ServesAll, BreaksOff};
 
@@ -11,7 +11,7 @@ impl<S: Space> Server<S> {
     ghost use Rattle.serving.specs.Reading.{ToTheEnd, InPartOf};
     ghost use Rattle.serving.specs.Servers.{served, knows_pc};
 
-    // Listens to all of the input.
+    // Listens to all of the input, in 2^64 - 1 pieces at the most.
     fn run<R: Read, W: Write>(self, input: &mut R, output: &mut W) -> (Self, io::Result<()>)
         ensures ok { OnOk result.1 (ToTheEnd (knows_pc self) (served S.Space.meaning self) (R.remaining input.old) (R.remaining input.new) (W.contents output.old) (W.contents output.new) (served S.Space.meaning result.0)) }
         ensures err { OnErr result.1 (InPartOf (knows_pc self) (served S.Space.meaning self) (R.remaining input.old) (R.remaining input.new) (served S.Space.meaning result.0)) }

@@ -20,7 +20,7 @@ use Rattle.sessions.specs.Histories.{Event, heard, answered, applied, History, E
 use Rattle.sessions.specs.Books.{marks, depth_after, in_force}
 use Rattle.sessions.specs.Shows.{Shows, ShownIn}
 use Rattle.sessions.specs.Promises as promised
-use Rattle.sessions.specs.Promises.{Read, since, Met, LastFault, never, RepliesShowTheMap, AskedItIsTold, EveryFaultAroseThere, UntouchedTrailsKeepReplies, Kept, Change}
+use Rattle.sessions.specs.Promises.{Read, since, Met, LastFault, never, RepliesShowTheMap, AskedItIsTold, EveryFaultAroseThere, UntouchedTrailsKeepReplies, Kept}
 use Rattle.sessions.proofs.Showing.{ShowsGot, shows_got, got_shows}
 use Rattle.sessions.proofs.Histories.{earlier_cases, earlier_shorter, nothing_earlier}
 use Rattle.sessions.proofs.Touching.{book_kin, run_same}

@@ -1,9 +1,9 @@
 // What a session replies to a payload.
 
-ghost use Rattle.std.specs.Prelude.{◌≡◌, ◌+◌, ◌≤◌, ◌^◌, Ok, length};
+ghost use Rattle.std.specs.Prelude.{◌+◌, ◌≤◌, ◌^◌, length};
 ghost use Rattle.packets.specs.Digits.{paired};
 ghost use Rattle.packets.specs.Commands.{read, write, meant};
-ghost use Rattle.sessions.specs.Answers.{after_asked, Answers};
+ghost use Rattle.sessions.specs.Answers.{Answers};
 ghost use Rattle.sessions.specs.Sessions.{state};
 ghost use Rattle.sessions.specs.Texts.{Says, end_of};
 
