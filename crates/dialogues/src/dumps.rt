@@ -55,10 +55,11 @@ fn the_first_65536_bytes_count(rt: HostRuntime) -> Result<(), Fail> {
 }
 
 // So many ranges of one address each.
-fn ranges(rt: &HostRuntime, count: u64) -> Result<Option<Refusal>, Fail> {
+fn ranges(rt: &HostRuntime, count: u8) -> Result<Option<Refusal>, Fail> {
     let mut dump = Vec::new(rt.alloc());
     for n in 0..count {
-        range(&mut dump, 16 * n, 16 * n, b"\x5a")?;
+        let at = 16 * n as u64;
+        range(&mut dump, at, at, b"\x5a")?;
     }
     let mut memory = [LimeRange::default(); RANGES];
     Ok(load_cart(&dump, b"", &mut memory).err())
