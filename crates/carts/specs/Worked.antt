@@ -1,6 +1,7 @@
-use Rattle.std.specs.Prelude.{◌≡◌, ℕ, List, [], ◌∷◌, Some, None, Ok}
+use Rattle.std.specs.Prelude.{◌≡◌, ℕ, List, [], ◌∷◌, ◌++◌, Some, None, Ok}
 use Rattle.spaces.specs.Reads.{Got, span, got}
 use Rattle.spaces.specs.Piles.{Pile, shown}
+use Rattle.spaces.specs.Trails.{trail}
 use Rattle.spaces.specs.Edits.{Edit, setting, refusal, edited}
 use Rattle.carts.specs.Carts.{cart_pile, cart_in}
 use Rattle.carts.specs.Aisle.{aisle}
@@ -30,6 +31,10 @@ stored = 0x41 ∷ 0x42 ∷ 0x43 ∷ 0x44 ∷ []
 abbrev pub mending : Edit
 mending = setting 0x4008 (0x03 ∷ 0x50 ∷ [])
 
+-- the bytes of the entries above the last, on the way from any address below 2 ^ 21
+abbrev pub tables : List ℕ
+tables = span 0x1000 8 ++ (span 0x2000 8 ++ span 0x3000 8)
+
 pub record CartExamples : Type 0 where
   pub loads : cart_in aisle (0x00 ∷ 0x10 ∷ []) ≡ Ok sample
   -- over the end of the page: the entry of the next one is not present
@@ -42,3 +47,10 @@ pub record CartExamples : Type 0 where
   -- with the entry patched in, the next page is there
   pub accepted : refusal sample 2 mending ≡ None
   pub mended : read (edited sample 2 mending) 0x1ffc 4 ≡ whole stored
+  -- below paging a byte rests on the four entries on its way and on its final address, in the overlay as in the image
+  pub rests : trail sample (0xffc ∷ []) 2 ≡ tables ++ (span 0x4000 8 ++ (0x5ffc ∷ []))
+  pub rests_below : trail sample (0xffc ∷ []) 3 ≡ trail sample (0xffc ∷ []) 2
+  -- an absent entry rests on the entries up to it
+  pub absent_rests : trail sample (0x1000 ∷ []) 2 ≡ tables ++ span 0x4008 8
+  -- below the patches it does not rest on the bytes that are patched
+  pub mended_rests : trail (edited sample 2 mending) (0x1ffc ∷ []) 3 ≡ tables ++ (span 0x400a 6 ++ (0x5ffc ∷ []))

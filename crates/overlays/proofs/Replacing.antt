@@ -2,6 +2,7 @@ use Rattle.std.proofs.Common.{◌≡◌, ℕ, zero, suc, ◌+◌, ◌<◌, ◌�
 use Rattle.std.proofs.lemmas.Grind.{common_steps}
 use Rattle.std.proofs.lemmas.List.{length-append, length-take-le}
 use Rattle.spaces.specs.Patches.{Patches, before, from, laid, replaced}
+use Rattle.spaces.proofs.Laying.{length_laid}
 
 -- one byte more
 laid_suc : (first : ℕ) (bytes : List ℕ) (i : ℕ) → i < length bytes → laid first (take (suc i) bytes) ≡ laid first (take i bytes) ++ (record { address = first + i; byte = get_or bytes i 0 } ∷ [])
@@ -12,10 +13,6 @@ laid_suc first (b ∷ bs) (suc i) h = let ih = laid_suc (suc first) bs i (omega 
 pub laid_more : (front : Patches) (first : ℕ) (bytes : List ℕ) (i : ℕ) → i < length bytes
     → (front ++ laid first (take i bytes)) ++ (record { address = first + i; byte = get_or bytes i 0 } ∷ []) ≡ front ++ laid first (take (i + 1) bytes)
 laid_more front first bytes i h = rw (add-one, laid_suc first bytes i h, append_assoc)
-
-length_laid : (a : ℕ) (bytes : List ℕ) → length (laid a bytes) ≡ length bytes
-length_laid a [] = refl
-length_laid a (b ∷ bs) = let ih = length_laid (suc a) bs in omega arith
 
 module _ (ps : Patches) (first end : ℕ) (bytes : List ℕ) where
   length_replaced : length (replaced first end bytes ps) ≡ length (before first ps) + length bytes + length (from end ps)

@@ -8,13 +8,13 @@ use Rattle.packets.specs.Frames.{framed}
 use Rattle.sessions.specs.Answers.{read_text, fault_text, reply, after}
 use Rattle.sessions.specs.Shows.{ShownIn}
 use Rattle.sessions.specs.States.{State}
-use Rattle.sessions.specs.Effects.{at_most, asked_for, written_by}
+use Rattle.sessions.specs.Effects.{at_most, asked_for, written_by, met_by}
 use Rattle.sessions.specs.Histories.{Event, answered, History, Earlier, same, before}
 use Rattle.sessions.specs.Books.{marks, book, in_force, Takes}
 use Rattle.sessions.specs.Promises as promised
 use Rattle.sessions.specs.Promises.{Read, since, Met, LastFault, never, Kept, Change}
-use Rattle.sessions.specs.Laws.{WhatIsKeptLeavesNothingOpen, EveryLastFaultArose, OffTheTrail}
-use Rattle.sessions.proofs.Showing.{got_shows}
+use Rattle.sessions.specs.Laws.{WhatIsKeptLeavesNothingOpen, EveryLastFaultArose, OffTheTrail, Again}
+use Rattle.sessions.proofs.Showing.{shows_got, got_shows}
 use Rattle.sessions.proofs.Histories.{earlier_cases, earlier_shorter}
 use Rattle.sessions.proofs.Keeping.{kept_more}
 use Rattle.spaces.specs.Trails.{trail}
@@ -119,8 +119,8 @@ module _ (p : Pile) (h : History) (s : State) (payload between : List ℕ) (firs
       let then : b ≡ once = cc in
       rw (kept_once.pile, kept_once.depth) (rw (event, then) at t)
 
-  pub kept_again : framed (reply (after (after s payload) between) payload) ≡ framed (reply s payload)
-  kept_again = sym (kept_thrice.steady old new (before same) refl untouched).0
+  pub kept_again : Again s (after (after s payload) between) payload
+  kept_again = record { frame = sym steady.0; met = met_there }
     where
       old : Read (answered payload (frame (after (after s payload) between) payload) ∷ twice)
       old = record { payload = payload; frame = frame s payload; before = h; there = before (before same); first = first; count = count; accepted = is }
@@ -133,3 +133,15 @@ module _ (p : Pile) (h : History) (s : State) (payload between : List ℕ) (firs
         | inl q ↦ off c.pile c.mark (takes_there c.event c.between c.pile c.mark q c.takes) a (rw k.pile t) u
         | inr v ↦ let x = earlier_shorter v in let y = earlier_shorter c.begins in absurd (omega arith)
       ]
+
+      steady : (frame s payload ≡ frame (after (after s payload) between) payload) × ((o : Option Fault) → Met p old o → Met p new o)
+      steady = kept_thrice.steady old new (before same) refl untouched
+
+      met_first : Met p old (got (shown (in_force p h)) (asked_for first count)).fault
+      met_first = ((got (shown (in_force p h)) (asked_for first count)).bytes, shows_got (shown (in_force p h)) first (at_most count))
+
+      same_fault : (q r : Pile) → q ≡ in_force p twice → r ≡ in_force p h → (got (shown q) (asked_for first count)).fault ≡ (got (shown r) (asked_for first count)).fault
+      same_fault q r e f = rw (e, f) (fault_of p new _ (steady.1 _ met_first))
+
+      met_there : met_by (shown (after (after s payload) between).pile) (asked payload) ≡ met_by (shown s.pile) (asked payload)
+      met_there = ap (met_by (shown (after (after s payload) between).pile)) is ∙ same_fault _ _ kept_twice.pile k.pile ∙ sym (ap (met_by (shown s.pile)) is)

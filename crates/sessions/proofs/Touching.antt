@@ -9,6 +9,7 @@ use Rattle.patchfiles.specs.Runs.{Mark, refused, marked, left_by}
 use Rattle.sessions.specs.Histories.{History, Earlier, same, before}
 use Rattle.sessions.specs.Books.{book, in_force, marks, Takes, first, later}
 use Rattle.sessions.specs.Promises.{Change}
+use Rattle.sessions.specs.Laws.{NothingRefusedTakesEffect}
 
 -- What edits leave: a lawful pile, the same but for its patches, and these too where none of them is touched.
 
@@ -58,3 +59,11 @@ module _ (j a : ℕ) where
   run_same p l {old} (before {k = k} {e = e} t) off =
       run_same p l t (λ c. off (record { between = c.between; event = c.event; begins = c.begins; ends = before c.ends; pile = c.pile; mark = c.mark; takes = c.takes }))
       ∙ marks_same (marks (book p k).depth e) (in_force p k) (book_kin p k l).lawful (λ r m t′. off (record { between = k; event = e; begins = t; ends = same; pile = r; mark = m; takes = t′ }))
+
+-- what takes effect was accepted
+accepted : {p q : Pile} {ms : List Mark} {m : Mark} → Takes p ms q m → refused q m ≡ None
+accepted (first e) = e
+accepted (later e t) = accepted t
+
+pub takes_accepted : NothingRefusedTakesEffect
+takes_accepted p q ms m t = accepted t

@@ -6,6 +6,7 @@ use Rattle.spaces.specs.declared.refusal.Refusal.{Refusal}
 use Rattle.spaces.specs.Patches.{Patches, laid}
 use Rattle.spaces.specs.Piles.{Pile}
 use Rattle.spaces.specs.Edits.{setting, edit, judged, patches_at, refusal, edited, edit_at, unless, Outcome, outcome, Edits}
+use Rattle.spaces.proofs.Laying.{length_laid}
 use Rattle.packets.specs.Digits.{paired, Places}
 use Rattle.packets.specs.Commands.{write}
 use Rattle.patchfiles.specs.Runs.{Mark, refused, marked, left_by}
@@ -13,10 +14,6 @@ use Rattle.sessions.specs.States.{State}
 use Rattle.sessions.specs.Answers.{done, told, after_asked}
 
 -- Of many bytes 257 decide whether a set is refused.
-
-length_laid : (a : ℕ) (bytes : List ℕ) → length (laid a bytes) ≡ length bytes
-length_laid a [] = refl
-length_laid a (b ∷ bytes) = let ih = length_laid (suc a) bytes in omega arith
 
 -- a set of more than 256 bytes leaves more than 256 patches
 crowds : (first : ℕ) (bytes : List ℕ) (ps : Patches) → 256 < length bytes → 256 < length (edit (setting first bytes) ps)

@@ -1,4 +1,4 @@
-ghost use Rattle.sessions.specs.Laws.{WhatIsKeptLeavesNothingOpen, EveryLastFaultArose, EveryWriteOffTheTrailKeepsTheReply};
+ghost use Rattle.sessions.specs.Laws.{WhatIsKeptLeavesNothingOpen, EveryLastFaultArose, EveryWriteOffTheTrailKeepsTheRead, NothingRefusedTakesEffect};
 
 // What follows from what a session keeps, and from nothing else. There is nothing to run: each contract is a theorem.
 
@@ -12,7 +12,12 @@ pub fn every_last_fault_arose()
     ensures { EveryLastFaultArose }
 {}
 
-// A read is answered as before after a write that touches no patch on its trail.
-pub fn every_write_off_the_trail_keeps_the_reply()
-    ensures { EveryWriteOffTheTrailKeepsTheReply }
+// A read is answered as before, and meets the same fault, after a write that touches no patch on its trail.
+pub fn every_write_off_the_trail_keeps_the_read()
+    ensures { EveryWriteOffTheTrailKeepsTheRead }
+{}
+
+// What counts as a change of the pile was accepted: a refused edit is none.
+pub fn nothing_refused_takes_effect()
+    ensures { NothingRefusedTakesEffect }
 {}

@@ -14,7 +14,7 @@ mod waiting;
 pub use call::{Call, Outcome, Slot};
 pub use heard::Heard;
 pub use laws::{
-    every_last_fault_arose, every_write_off_the_trail_keeps_the_reply,
+    every_last_fault_arose, every_write_off_the_trail_keeps_the_read, nothing_refused_takes_effect,
     what_is_kept_leaves_nothing_open,
 };
 pub use owing::Owing;

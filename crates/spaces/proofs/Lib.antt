@@ -1,4 +1,5 @@
 pub mod Lawful
+pub mod Laying
 pub mod Walking
 pub mod Filling
 pub mod Ascents
