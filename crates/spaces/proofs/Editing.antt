@@ -1,9 +1,9 @@
-use Rattle.std.proofs.Common.{◌≡◌, ℕ, ◌+◌, ◌≤◌, [], ◌∷◌, length, Some, None, arith}
+use Rattle.std.proofs.Common.{◌≡◌, ℕ, ◌+◌, ◌-◌, ◌≤◌, [], ◌∷◌, length, Some, None, arith}
 use Rattle.std.proofs.lemmas.List.{length-append, nil_from_length}
 use Rattle.std.proofs.lemmas.Bool.Decides.{nat_tests}
-use Rattle.spaces.specs.Patches.{Patches, Ascending, before, from, LawfulPatches}
-use Rattle.spaces.specs.Edits.{Edit, clearing, first_of, count_of, bytes_of, edit, judged, unless, Outcome, outcome, EditsPatches}
-use Rattle.spaces.specs.EditLaws.{EditLaws, ClearLaw}
+use Rattle.spaces.specs.Patches.{Patches, Ascending, lookup, before, from, LawfulPatches}
+use Rattle.spaces.specs.Edits.{Edit, setting, clearing, first_of, count_of, bytes_of, edit, judged, unless, Outcome, outcome, EditsPatches}
+use Rattle.spaces.specs.EditLaws.{Touches, Touched, EditLaws, ClearLaw}
 use Rattle.spaces.proofs.Ascents.{ascending_replaced, replaced_none}
 use Rattle.spaces.proofs.Finding.{changes}
 use Rattle.spaces.proofs.Places.{exactly_edited}
@@ -18,10 +18,22 @@ empty_edit e ps h z = grind (arith, replaced_none 0 (first_of e) ps h, nil_from_
 pub lawful_edit : (e : Edit) (ps : Patches) → judged (Some ps) e ≡ None → LawfulPatches ps → LawfulPatches (edit e ps)
 lawful_edit e ps h k = record { ascending = ascending_edit e ps k.ascending; few = grind (arith, nat_tests) }
 
+-- what an edit does where it touches
+touches_so : (e : Edit) (ps : Patches) (a : ℕ) → Touches e (lookup ps) a → Touched e (lookup ps) (lookup (edit e ps)) a
+touches_so (setting first bytes) ps a t =
+    let q : first + (a - first) ≡ a = omega (arith, t.0) in
+    let c = (changes (setting first bytes) ps).inside (a - first) (omega (arith, t.0, t.1)) in
+    grind (arith, rw q at c)
+touches_so (clearing first count) ps a (t, p) =
+    let q : first + (a - first) ≡ a = omega (arith, t.0) in
+    let c = (changes (clearing first count) ps).inside (a - first) (omega (arith, t.0, t.1)) in
+    (p, rw q at c)
+
 -- the laws of an edit of an overlay
 pub edit_laws : (e : Edit) (old : Patches) → LawfulPatches old → EditLaws e old (unless (judged (Some old) e) old (edit e old)) (outcome (judged (Some old) e))
 edit_laws e old law = record {
   accepted = λ q. grind (arith, nat_tests, changes e old);
+  touched = λ q. grind (arith, nat_tests, touches_so e old);
   refused = λ n q. grind (arith, nat_tests);
   empty = λ z. grind (arith, empty_edit e old law.ascending z);
   past = λ h. grind (arith, nat_tests);

@@ -36,6 +36,11 @@ abbrev pub Touches : Edit → Patching → ℕ → Type 0
 Touches (setting first bytes) old a = Inside (setting first bytes) a
 Touches (clearing first count) old a = Inside (clearing first count) a × Patched old a
 
+-- what an accepted edit does to each of them: a set leaves a patch there, a clear takes one back
+abbrev pub Touched : Edit → (old new : Patching) → ℕ → Type 0
+Touched (setting first bytes) old new a = Patched new a
+Touched (clearing first count) old new a = Patched old a × (new a ≡ None)
+
 -- the addresses that would be patched after an edit
 abbrev pub Would : Edit → Patching → ℕ → Type 0
 Would (setting first bytes) old a = Inside (setting first bytes) a ⊎ Patched old a
@@ -58,6 +63,7 @@ pub record Weighed (e : Edit) (old : Patching) (r : Outcome) : Type 0 where
 -- an edit of an overlay
 pub record EditLaws (e : Edit) (old new : Patches) (r : Outcome) : Type 0 where
   pub accepted : r ≡ Ok tt → Changes e (lookup old) (lookup new)
+  pub touched : r ≡ Ok tt → (a : ℕ) → Touches e (lookup old) a → Touched e (lookup old) (lookup new) a
   pub refused : (n : Refusal) → r ≡ Err n → new ≡ old
   pub empty : count_of e ≡ 0 → new ≡ old
   pub past : 2 ^ 64 < first_of e + count_of e → r ≡ Err PastTheEnd
