@@ -40,7 +40,9 @@ CODE = [  # a pattern, and what stands for it
     (r" << ", " >> "), (r" >> ", " << "), (r" & (?!mut)", " | "), (r" \| ", " & "), (r" \^ ", " | "),
     (r" \+= ", " -= "), (r" -= ", " += "), (r"\.\.=", ".."), (r"\[\.\.(\w+)\]", r"[\1..]"), (r"\[(\w+)\.\.\]", r"[..\1]"),
     (r"\bif (?!let\b)([^{]+) \{", r"if !(\1) {"), (r"\bSome\(\w+\)(?= *[,;}\n]|$)", "None"), (r"!(?=[a-z(])", ""),
-    (r"\((\w+), (\w+)\)", r"(\2, \1)"), (r", (\w+), (\w+)\)", r", \2, \1)"), (r"\.rev\(\)", ""),
+    (r"\b(\w+), (\w+)\b", r"\2, \1"), (r"\.rev\(\)", ""), (r"\.(iter|iter_mut|chars)\(\)", r".\1().rev()"),
+    (r"\.(iter|iter_mut)\(\)", r".\1().skip(1)"), (r"\bif (?!let\b)([^{]+) \{", "if true {"), (r"\bif (?!let\b)([^{]+) \{", "if false {"),
+    (r" as (u64|u128|usize)\b", r" as u8 as \1"), (r"^(\s*)([^;{}]*(?: [=!<>]=? |&&|\|\||any\(|all\()[^;{}]*)$", r"\1!(\2)"), (r"\.position\(", ".rposition("),
     (r"\.(min|max|map_err|filter)\([^()]*(\([^()]*\))?[^()]*\)", ""), (r"\((\w[\w.]*)\)", r"(\1 + 1)"),
 ]
 STATEMENT = re.compile(r"^\s*([\w.\[\]*]+ (=|\+=|-=|\|=|\^=) [^=].*|[\w.]+\([^;]*\)\??);$")
@@ -77,6 +79,10 @@ def code_bugs(line):
     yield from patterns(line, CODE)
     yield from numbers(line)
     yield from words(line, PAIRS)
+    for m in re.finditer(r"\bb'(\w|[+$#,:-])'", line):
+        yield line[: m.start(1)] + chr(ord(m.group(1)) + 1) + line[m.end(1):]
+    for m in re.finditer(r'"([\w.$#:]+)"', line):
+        yield line[: m.start(1)] + m.group(1)[::-1] + line[m.end(1):]
     m = re.search(r"\bRefusal::(\w+)", line)
     if m and m.group(1) in REFUSALS:
         other = REFUSALS[(REFUSALS.index(m.group(1)) + 1) % len(REFUSALS)]
@@ -101,7 +107,7 @@ def names_of(lines):
     for line in lines:
         if re.search(r"\bfn \w+", line):
             names = set()
-        for m in re.finditer(r"\blet (?:mut )?(\w+)|\bfor (\w+) in|\|(\w+)\||\b(?:Some|Ok|Err)\((\w+)\)|\b([a-z]\w*): (?!:)", line):
+        for m in re.finditer(r"\blet (?:mut )?([a-z]\w*)|\bfor ([a-z]\w*) in|\|(\w+)\||\b(?:Some|Ok|Err)\((\w+)\)|\b([a-z]\w*): (?!:)", line):
             names.update(x for x in m.groups() if x and not x.isdigit())
         if "self" in line:
             names.add("self")
@@ -149,10 +155,14 @@ def planted(crate, specs):
             names = names_of(lines)
             for n in (spec_lines if specs else code_lines)(lines):
                 seen = {lines[n]}
-                for new in spec_bugs(lines[n]) if specs else [*code_bugs(lines[n]), *other_names(lines[n], names[n])]:
+                for new in spec_bugs(lines[n]) if specs else code_bugs(lines[n]):
                     if new not in seen:
                         seen.add(new)
-                        yield path, n, lines[n], new
+                        yield 0, path, n, lines[n], new
+                for new in [] if specs else other_names(lines[n], names[n]):
+                    if new not in seen:
+                        seen.add(new)
+                        yield 1, path, n, lines[n], new
 
 
 def check(repository, crate):
@@ -184,8 +194,10 @@ def main():
     options.add_argument("--list", action="store_true", help="only list them")
     a = options.parse_args()
     os.chdir(os.path.join(os.path.dirname(os.path.abspath(__file__)), ".."))
-    bugs = [b for b in planted(a.crate, a.specs) if a.only in b[0]]
+    bugs = [b for b in planted(a.crate, a.specs) if a.only in b[1]]
     random.Random(a.seed).shuffle(bugs)
+    # names that stand for others mostly do not compile: they come last, and not all of them
+    bugs = [b[1:] for b in bugs if b[0] == 0] + [b[1:] for b in bugs if b[0] == 1][: a.most]
     if a.list:
         for path, n, old, new in bugs[: a.most]:
             print(f"{path}:{n + 1}: {old.strip()}  ->  {new.strip()}")
