@@ -5,9 +5,9 @@ use images::LimeRange;
 use serving::serve;
 use std::test::Fail;
 
-// What GDB 13.1 sent to a stub that was written from the protocol's manual alone and knows four bytes at 0xffc: GDB connects,
-// reads the four bytes, then four from 0xffe on, and detaches. The first reply to a read was spoiled on its way, so GDB asked
-// for it again by `-`.
+// What GDB 13.1 sent to a script that frames and sums by itself and knows four bytes at 0xffc: GDB connects, reads the four
+// bytes, then four from 0xffe on, and detaches. The first reply to a read was spoiled on its way, so GDB asked for it again
+// by `-`.
 const ASKED: &[u8; 430] = b"\
     +$qSupported:multiprocess+;swbreak+;hwbreak+;qRelocInsn+;fork-events+;vfork-events+;exec-events+;\
     vContSupported+;QThreadEvents+;no-resumed+;memory-tagging+;xmlRegisters=i386#77\
@@ -16,7 +16,8 @@ const ASKED: &[u8; 430] = b"\
     +$m0,1#fa-+$m0,1#fa+$m0,9#02\
     +$mffc,1#f9+$mffd,1#fa+$mffe,1#fb+$mfff,1#fc+$mffe,4#fe+$m1000,2#8c+$D#44+";
 
-// What that stub sent before and behind the registers, but for the number in the error of the next page, which is the cart's.
+// What that script sent, and GDB accepted, before and behind the registers. Only the number in the error of the next page is
+// the cart's.
 const BEFORE: &[u8] = b"+$PacketSize=1000#f1+$#00+$OK#9a+$#00+$S05#b8+$#00+$#00+$OK#9a+$#00+$#00+";
 
 const BEHIND: &[u8] = b"+$#00+$E01#a6$E01#a6+$E01#a6+$E01#a6\
