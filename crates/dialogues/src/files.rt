@@ -2,7 +2,7 @@ use crate::piles::{Windowed, counting, windowed};
 use crate::talk::{owing, replies};
 use patchfiles::Stopped;
 use sessions::Waiting;
-use spaces::{Refusal, Space};
+use spaces::{Numbered, Refusal, Space};
 use std::process::Abort;
 
 type Raw = [u8; 16];
@@ -128,6 +128,12 @@ fn bytes_of_a_file(rt: HostRuntime) {
         ],
     );
     let _ = session.close();
+}
+
+#[test]
+fn refusals_have_their_numbers(rt: HostRuntime) {
+    assert_eq!(rt; Refusal::BadLength.number(), 0x3a);
+    assert_eq!(rt; Refusal::BadRecord.number(), 0x3b);
 }
 
 // It counts before the form of a record does.

@@ -9,7 +9,7 @@ use std::test::Fail;
 
 // The dump of the sample cart, a LiME file: each range has its magic, version, first and last address, eight zeros, and then
 // its bytes.
-const DUMP: [u8; 204] = *b"\
+pub(crate) const DUMP: [u8; 204] = *b"\
     EMiL\x01\0\0\0\0\x10\0\0\0\0\0\0\x07\x10\0\0\0\0\0\0\0\0\0\0\0\0\0\0\
     \x03\x20\0\0\0\0\0\0\
     EMiL\x01\0\0\0\0\x20\0\0\0\0\0\0\x07\x20\0\0\0\0\0\0\0\0\0\0\0\0\0\0\

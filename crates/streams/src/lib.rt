@@ -7,6 +7,8 @@ mod cart;
 #[cfg(test)]
 mod failing;
 #[cfg(test)]
+mod gdb;
+#[cfg(test)]
 mod items;
 #[cfg(test)]
 mod listening;

@@ -2,9 +2,10 @@ use crate::served::counting;
 use packets::REPLY;
 use serving::{serve, with_known_pc};
 use std::process::Abort;
+use std::test::Fail;
 
 // 328 letters in a frame, of which 256 to 271 are 0. The sum is 312 times 78 and 16 times 30, and so 40.
-fn known_frame() -> [u8; 332] {
+pub(crate) fn known_frame() -> [u8; 332] {
     let mut frame = [b'x'; 332];
     frame[0] = b'$';
     frame[257..273].fill(b'0');
@@ -18,6 +19,51 @@ fn unknown_frame() -> [u8; 332] {
     frame[0] = b'$';
     frame[329..].copy_from_slice(b"#c0");
     frame
+}
+
+// The registers in a reply to `g` and the bytes of each, as GDB 13.1 has them of i386:x86-64, in this order and with no gap
+// (`maint print remote-registers`). What comes behind them may be left out.
+const REGISTERS: [(&str, usize); 24] = [
+    ("rax", 8),
+    ("rbx", 8),
+    ("rcx", 8),
+    ("rdx", 8),
+    ("rsi", 8),
+    ("rdi", 8),
+    ("rbp", 8),
+    ("rsp", 8),
+    ("r8", 8),
+    ("r9", 8),
+    ("r10", 8),
+    ("r11", 8),
+    ("r12", 8),
+    ("r13", 8),
+    ("r14", 8),
+    ("r15", 8),
+    ("rip", 8),
+    ("eflags", 4),
+    ("cs", 4),
+    ("ss", 4),
+    ("ds", 4),
+    ("es", 4),
+    ("fs", 4),
+    ("gs", 4),
+];
+
+// Two digits a byte: all of rip are 0, all others are not known.
+#[test]
+fn registers_in_their_order(rt: HostRuntime) -> Result<(), Fail> {
+    let mut digits = Vec::new(rt.alloc());
+    for (name, bytes) in REGISTERS {
+        let digit = if name == "rip" { b"00" } else { b"xx" };
+        for _ in 0..bytes {
+            digits.extend_from_slice(digit)?;
+        }
+    }
+    let mut reply = [b'.'; REPLY];
+    assert!(rt; with_known_pc(b"g", &mut reply, 7) == 332);
+    assert!(rt; &reply[1..329] == digits.as_slice());
+    Ok(())
 }
 
 // A stream and what is sent for it, where it begins with a frame behind `+`.

@@ -44,6 +44,13 @@ impl Entry for u64 {
     }
 }
 
+// The bytes of an entry as they lie.
+impl<const N: usize> Entry for [u8; N] {
+    fn lay(self, board: &mut Board, at: u64) -> Result<(), Refusal> {
+        board.set(0, at, &self)
+    }
+}
+
 // Lays entries, each at its address.
 pub(crate) fn lay<E: Entry>(board: &mut Board, entries: &[(u64, E)]) -> Result<(), Refusal> {
     for (at, entry) in entries {

@@ -1,5 +1,5 @@
-// Tests of paging: where addresses go in each scheme, what breaks a walk, bytes and edits seen through tables, and
-// tables that lie in paged memory themselves.
+// Tests of paging: where addresses go in each scheme, what breaks a walk, bytes and edits seen through tables, tables
+// that lie in paged memory themselves, and the layouts of known systems.
 #![tactic(auto)]
 
 #[cfg(test)]
@@ -10,6 +10,10 @@ mod bytes;
 mod edits;
 #[cfg(test)]
 mod four_level;
+#[cfg(test)]
+mod kernels;
+#[cfg(test)]
+mod mirrors;
 #[cfg(test)]
 mod nested;
 #[cfg(test)]

@@ -8,4 +8,6 @@ mod dumps;
 #[cfg(test)]
 mod lime;
 #[cfg(test)]
+mod published;
+#[cfg(test)]
 mod raw;

@@ -1,7 +1,7 @@
 use crate::dumps::{byte, fault, header, loaded, range};
 use extents::Table;
 use images::{LimeRange, NotLoaded, load_lime};
-use spaces::Refusal;
+use spaces::{Numbered, Refusal};
 use std::test::Fail;
 
 fn refused(refusal: Refusal, place: usize, written: usize) -> Result<usize, NotLoaded> {
@@ -10,6 +10,19 @@ fn refused(refusal: Refusal, place: usize, written: usize) -> Result<usize, NotL
         place,
         written,
     })
+}
+
+#[test]
+fn refusals_have_their_numbers(rt: HostRuntime) {
+    let cases = [
+        (Refusal::HeaderCut, 0x30),
+        (Refusal::BadHeader, 0x31),
+        (Refusal::Overlap, 0x34),
+        (Refusal::TableFull, 0x35),
+    ];
+    for (refusal, number) in cases {
+        assert_eq!(rt; refusal.number(), number);
+    }
 }
 
 #[test]

@@ -59,6 +59,32 @@ fn payloads_ask_for_commands(rt: HostRuntime) {
     }
 }
 
+// What GDB 13.1 sent, and what it meant by that.
+#[test]
+fn payloads_of_gdb(rt: HostRuntime) {
+    let cases = [
+        (
+            "qSupported:multiprocess+;swbreak+;hwbreak+;qRelocInsn+;fork-events+;vfork-events+;exec-events+;\
+             vContSupported+;QThreadEvents+;no-resumed+;memory-tagging+;xmlRegisters=i386",
+            Command::Supported,
+        ),
+        ("Hg0|Hc-1|Hc0", Command::Thread),
+        ("?", Command::WhyHalted),
+        ("g", Command::Registers),
+        ("m0,9", read(0, 9)),
+        ("m1000,800", read(4_096, 2_048)),
+        ("mffffffff81000000,1", read(0xffff_ffff_8100_0000, 1)),
+        ("M4010,4:78563412", write(0x4010, "78563412")),
+        ("D", Command::Detach),
+        ("vMustReplyEmpty|qTStatus|qfThreadInfo", Command::Unknown),
+        ("qL1200000000000000000|qC|qAttached", Command::Unknown),
+        ("X4008,0:|vCont?|s|p18", Command::Unknown),
+    ];
+    for (payloads, command) in cases {
+        answers(&rt, payloads, Ok(command));
+    }
+}
+
 #[test]
 fn other_payloads(rt: HostRuntime) {
     // names that are near the known ones, and names of GDB's that are not known here; the first is empty

@@ -1,4 +1,4 @@
-use packets::{Item, REPLY, frame, hear};
+use packets::{Command, Item, REPLY, frame, hear};
 use std::process::Abort;
 
 // Frames as GDB's logs and manual have them, and some whose sums are the least and the greatest.
@@ -57,6 +57,33 @@ fn frames_of_gdb(rt: HostRuntime) {
     gdb_sends(&rt, "g#67|m0,1#fa|m0,9#02|mffc,1#f9");
     gdb_sends(&rt, "m1000,1#8b|X1000,0:#af|M1000,1:5a#3b");
     gdb_sends(&rt, "qaisle.fault#c9|Qaisle.depth:02#3e|D#44");
+    // what it can do itself, patches of its own making, a step, a register, and reads as long as a dump to a file needs
+    gdb_sends(
+        &rt,
+        "qSupported:multiprocess+;swbreak+;hwbreak+;qRelocInsn+;fork-events+;vfork-events+;exec-events+;\
+         vContSupported+;QThreadEvents+;no-resumed+;memory-tagging+;xmlRegisters=i386#77",
+    );
+    gdb_sends(&rt, "X4008,0:#ba|M4008,1:03#13|M4010,4:78563412#50");
+    gdb_sends(&rt, "vCont?#49|Hc0#db|s#73|p18#d9");
+    gdb_sends(&rt, "mffffffff81000000,1#83|m8786858483828180,9#2e");
+    gdb_sends(&rt, "m0,800#61|m800,800#c9|m1000,800#f2");
+    // a read that texts on the protocol show; the sum of its bytes is 25a
+    gdb_sends(&rt, "m4015bc,2#5a");
+}
+
+// The longest write that GDB 13.1 sent to a stub with PacketSize=1000: 7f0 zeros at 10000, of a file of zeros.
+#[test]
+fn the_longest_write_of_gdb(rt: HostRuntime) {
+    let mut received = [b'0'; 4_079];
+    received[..12].copy_from_slice(b"$M10000,7f0:");
+    received[4_076..].copy_from_slice(b"#71");
+    let payload = &received[1..4_076];
+    assert_eq!(rt; hear(&received), Item::Packet { payload });
+    let write = Command::Write {
+        first: 0x1_0000,
+        digits: &payload[11..],
+    };
+    assert_eq!(rt; Command::parse(payload), Ok(write));
 }
 
 #[test]
