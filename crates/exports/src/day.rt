@@ -1,3 +1,8 @@
+ghost use Rattle.std.specs.Prelude.{◌≡◌, [], length, take, IfOk, IfErr};
+ghost use Rattle.carts.specs.Carts.{cart_in};
+ghost use Rattle.exports.specs.Tellings.{refused};
+ghost use Rattle.exports.specs.Days.{IsServed, IsSent, TellsOnly, TellsUnlessItBreaksOff};
+
 use crate::sent::Sent;
 use crate::told::Told;
 use carts::{RANGES, load_cart};
@@ -7,13 +12,6 @@ use serving::serve;
 use spaces::Space;
 use std::io::{self, Write};
 
-// What is told where serving broke off.
-const BROKE_OFF: Told = Told {
-    refusal: 0xff,
-    place: 0,
-    count: 0,
-};
-
 // Serves a stream over a space, applies a patch file to it, and serves a second stream by a new session.
 fn serve_day<S: Space + Drop, W: Write>(
     space: S,
@@ -21,7 +19,9 @@ fn serve_day<S: Space + Drop, W: Write>(
     file: &[u8],
     after: &[u8],
     output: &mut W,
-) -> io::Result<Result<usize, Stopped>> {
+) -> io::Result<Result<usize, Stopped>>
+    ensures { IfOk result (λ applied. IsServed (S.Space.meaning space) before.now file.now after.now (W.contents output.old) (W.contents output.new) applied) }
+{
     let mut stream = before;
     let (mut space, served) = serve(space, false, &mut stream, output);
     served?;
@@ -31,32 +31,34 @@ fn serve_day<S: Space + Drop, W: Write>(
     Ok(applied)
 }
 
-// The same with what is sent in front of a buffer, and how many bytes these are.
+// The same with all that is sent in front of a buffer, and how many bytes that is.
 fn send_day<S: Space + Drop>(
     space: S,
     before: &[u8],
     file: &[u8],
     after: &[u8],
     buffer: &mut [u8],
-) -> io::Result<(Result<usize, Stopped>, usize)> {
+) -> io::Result<(Result<usize, Stopped>, usize)>
+    ensures { IfOk result (λ r. IsSent (S.Space.meaning space) before.now file.now after.now buffer.old buffer.new r.0 r.1) }
+{
     let mut sent = Sent::new(buffer);
     let applied = serve_day(space, before, file, after, &mut sent)?;
     Ok((applied, sent.count()))
 }
 
-// The same with zeros behind it.
+// The same with zeros behind it, and what is told.
 fn tell_day<S: Space + Drop>(
     space: S,
     before: &[u8],
     file: &[u8],
     after: &[u8],
     sent: &mut [u8],
-) -> Told {
+) -> Told
+    ensures { TellsUnlessItBreaksOff result sent.old sent.new (S.Space.meaning space) before.now file.now after.now }
+{
     match send_day(space, before, file, after, sent) {
         Ok((applied, count)) => {
-            if let Some(rest) = sent.get_mut(count..) {
-                rest.fill(0);
-            }
+            sent[count..].fill(0);
             match applied {
                 Ok(records) => Told::done(records, count),
                 Err(stopped) => Told::refused(stopped.refusal, stopped.index, count),
@@ -64,11 +66,14 @@ fn tell_day<S: Space + Drop>(
         }
         Err(_) => {
             sent.fill(0);
-            BROKE_OFF
+            Told::broke_off()
         }
     }
 }
 
+// A day with the cart of a dump and a root file. All bytes that are sent lie in front of the buffer, and zeros behind them. Tells
+// the refusal of the patch file with the record's index or the number of records, and how many bytes were sent; or the refusal
+// of the dump; or, where what is sent does not fit, that serving broke off.
 #[unsafe(no_mangle)]
 pub extern "C" fn aisle_serve(
     dump: &[u8],
@@ -78,7 +83,10 @@ pub extern "C" fn aisle_serve(
     after: &[u8],
     sent: &mut [u8],
     told: &mut Told,
-) {
+)
+    ensures refused { IfErr (cart_in dump.now root.now) (λ refusal. TellsOnly told.new sent.old sent.new (refused refusal 0 0)) }
+    ensures unless_it_breaks_off { IfOk (cart_in dump.now root.now) (λ cart. TellsUnlessItBreaksOff told.new sent.old sent.new cart before.now file.now after.now) }
+{
     let mut memory = [LimeRange::default(); RANGES];
     *told = match load_cart(dump, root, &mut memory) {
         Ok(cart) => tell_day(cart, before, file, after, sent),

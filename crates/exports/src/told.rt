@@ -1,6 +1,6 @@
 use spaces::{Numbered, Refusal};
 
-// What a call tells: the number of a refusal or 0, a place or a number of records, and a count.
+// What a call tells: the number of a refusal or 0, where it was met, and a count.
 #[derive(Clone, Copy, Debug, PartialEq, Eq)]
 #[repr(C)]
 pub struct Told {
@@ -10,8 +10,13 @@ pub struct Told {
 }
 
 impl Told {
+    ghost use Rattle.std.specs.Prelude.{◌≡◌};
+    ghost use Rattle.exports.specs.Tellings.{done, refused, broke_off};
+
     // Nothing was refused.
-    pub(crate) fn done(place: usize, count: usize) -> Told {
+    pub(crate) fn done(place: usize, count: usize) -> Told
+        ensures { result ≡ done place count }
+    {
         Told {
             refusal: 0,
             place,
@@ -20,11 +25,24 @@ impl Told {
     }
 
     // Something was.
-    pub(crate) fn refused(refusal: Refusal, place: usize, count: usize) -> Told {
+    pub(crate) fn refused(refusal: Refusal, place: usize, count: usize) -> Told
+        ensures { result ≡ refused refusal place count }
+    {
         Told {
             refusal: refusal.number(),
             place,
             count,
+        }
+    }
+
+    // Serving broke off. No refusal has this number.
+    pub(crate) fn broke_off() -> Told
+        ensures { result ≡ broke_off }
+    {
+        Told {
+            refusal: 0xff,
+            place: 0,
+            count: 0,
         }
     }
 }
