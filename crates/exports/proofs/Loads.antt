@@ -5,7 +5,7 @@ use Rattle.images.specs.declared.load.NotLoaded.{NotLoaded}
 use Rattle.images.specs.declared.range.LimeRange.{LimeRange}
 use Rattle.images.specs.Loads.{answer, Loads}
 use Rattle.images.specs.Lime.{lime}
-use Rattle.exports.specs.Loading.{loaded, told_by, told_of}
+use Rattle.exports.specs.Loading.{loaded}
 use Rattle.exports.specs.Readings.{Reading, nothing, unless_refused}
 
 -- What a load answers and leaves.

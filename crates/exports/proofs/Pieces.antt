@@ -1,5 +1,5 @@
 use Rattle.std.proofs.Common.{◌≡◌, ℕ, zero, suc, ◌+◌, ◌-◌, ◌^◌, ◌<◌, ◌≤◌, min, List, [], ◌∷◌, ◌++◌, length, take, drop, Some, None, Ok, Err, Option, refl, sym, ◌∙◌, ap, arith}
-use Rattle.std.proofs.lemmas.List.{append_assoc, length-take-le, length-take, length-drop, length-append, take_at, drop_at, drop-drop, drop-append-le, take-append-drop}
+use Rattle.std.proofs.lemmas.List.{append_assoc, length-take-le, length-drop, length-append, take_at, drop_at, drop-drop, drop-append-le, take-append-drop}
 use Rattle.spaces.specs.declared.fault.Fault.{Fault}
 use Rattle.spaces.specs.Maps.{Answer, Map}
 use Rattle.spaces.specs.Reads.{span, Got, then_got, got, room, Fills}

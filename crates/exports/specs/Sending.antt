@@ -7,6 +7,6 @@ abbrev pub held : Sent → List ℕ
 held s = s.room.ghost_name ∷ length s.room.now ∷ take s.count s.room.now
 
 -- these bytes stand in front of a buffer, and zeros behind them
-pub record Filled (sent before after : List ℕ) : Type 0 where
+pub record InFront (sent before after : List ℕ) : Type 0 where
   pub fits : length sent ≤ length before
   pub bytes : after ≡ sent ++ replicate (length before - length sent) 0

@@ -1,7 +1,6 @@
-use Rattle.std.specs.Prelude.{ℕ, Ok, Err, Result}
+use Rattle.std.specs.Prelude.{ℕ}
 use Rattle.spaces.specs.declared.refusal.Refusal.{Refusal}
 use Rattle.spaces.specs.Numbers.{refusal_number}
-use Rattle.patchfiles.specs.declared.stopped.Stopped.{Stopped}
 use Rattle.exports.specs.declared.told.Told.{Told}
 
 -- What is told of a call.

@@ -27,7 +27,8 @@ fn serve_day<S: Space + Drop, W: Write>(
     served?;
     let applied = apply(&mut space, file);
     let mut stream = after;
-    serve(space, false, &mut stream, output).1?;
+    let (_, served) = serve(space, false, &mut stream, output);
+    served?;
     Ok(applied)
 }
 

@@ -6,6 +6,8 @@ mod loading;
 mod reading;
 mod sent;
 mod told;
+#[cfg(test)]
+mod uses;
 
 pub use day::aisle_serve;
 pub use loading::aisle_load;

@@ -1,7 +1,6 @@
-use Rattle.std.proofs.Common.{rules, arith}
+use Rattle.std.proofs.Common.{arith}
 use Rattle.std.proofs.lemmas.Grind.{common_steps}
 use Rattle.exports.proofs.Loads.{loads_dump}
-use Rattle.exports.proofs.Pieces.{got_over}
 use Rattle.exports.proofs.loading.aisle_load.Goals as goal
 
 pub returns-in-Ok : goal.returns-in-Ok
