@@ -99,8 +99,11 @@ module _ (m : Map) (first : ℕ) (before : List ℕ) where
   both : (n k : ℕ) (now : List ℕ) → Placed n now → got m (span first (n + many n k)) ≡ onto (here n) (piece n k)
   both n k now p = ap (got m) (span_over first n (many n k)) ∙ got_over m (span first n) (span (first + n) (many n k)) p.met
 
-  module _ (n k : ℕ) (now part : List ℕ) (r : ℕ × Option Fault) (p : Placed n now) (fits : n + k ≤ length before)
-      (f : Fills m (first + n) (mid_of n k now) part r) where
+  module _ (n k at : ℕ) (now part : List ℕ) (r : ℕ × Option Fault) (p : Placed n now) (fits : n + k ≤ length before) (place : at ≡ first + n)
+      (g : Fills m at (mid_of n k now) part r) where
+    f : Fills m (first + n) (mid_of n k now) part r
+    f = rw place at g
+
     lent : length (mid_of n k now) ≡ k
     lent = length-take-le k (drop n now) (let l = long n now p in rw (length-drop n now) (omega arith))
 
