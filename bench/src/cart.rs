@@ -101,10 +101,10 @@ pub fn read_patched(read: &Read, pace: Pace, into: &mut [u8]) -> Told {
         Err(refused) => return no_dump(refused),
     };
     match patchfile::apply(read.file, &mut cart) {
-        Ok(records) => Told {
+        Ok(_) => Told {
             refusal: 0,
-            place: records,
-            count: fill_in_pieces(&cart, pace, read, into),
+            place: 0,
+            count: fill_in_pieces(&cart, pace, read.first, read.piece, into),
         },
         Err((refusal, place)) => Told {
             refusal,
@@ -114,13 +114,20 @@ pub fn read_patched(read: &Read, pace: Pace, into: &mut [u8]) -> Told {
     }
 }
 
-fn fill_in_pieces(cart: &impl Space, pace: Pace, read: &Read, into: &mut [u8]) -> usize {
+/// Fills a buffer in pieces up to the first fault, and tells how many bytes were placed.
+pub fn fill_in_pieces(
+    cart: &impl Space,
+    pace: Pace,
+    first: u64,
+    piece: usize,
+    into: &mut [u8],
+) -> usize {
     let mut placed = 0;
-    for piece in into.chunks_mut(read.piece.max(1)) {
-        let Some(first) = read.first.checked_add(placed as u64) else {
+    for part in into.chunks_mut(piece.max(1)) {
+        let Some(address) = first.checked_add(placed as u64) else {
             break;
         };
-        let (count, fault) = fill(cart, pace, first, piece);
+        let (count, fault) = fill(cart, pace, address, part);
         placed += count;
         if fault.is_some() {
             break;

@@ -7,6 +7,14 @@ use std::fmt::{Debug, Write};
 
 /// What stands in a buffer before a call.
 const UNTOUCHED: u8 = 0xA5;
+/// How much more room there is than what is sent takes.
+const MORE: usize = 512;
+/// What is told where what is sent has too little room.
+const TOO_SMALL: Told = Told {
+    refusal: 0xff,
+    place: 0,
+    count: 0,
+};
 /// How many differences of a kind are shown.
 const SHOWN: usize = 3;
 
@@ -32,6 +40,8 @@ pub struct Tally {
     worker: usize,
     workers: usize,
     number: usize,
+    /// The kind that is counted now.
+    at: usize,
     pub kinds: Vec<Kind>,
 }
 
@@ -41,12 +51,18 @@ impl Tally {
             worker,
             workers,
             number: 0,
+            at: 0,
             kinds: Vec::new(),
         }
     }
 
-    /// Counts what follows as another kind.
+    /// Counts what follows as of this kind.
     pub fn kind(&mut self, name: &'static str) {
+        let known = self.kinds.iter().position(|kind| kind.name == name);
+        self.at = known.unwrap_or(self.kinds.len());
+        if known.is_some() {
+            return;
+        }
         self.kinds.push(Kind {
             name,
             cases: 0,
@@ -76,19 +92,31 @@ impl Tally {
 
     pub fn day(&mut self, day: &Day) {
         if self.mine() {
-            self.day_with_room(day, 512);
+            let plain = serve_day(day, Pace::Byte);
+            let room = plain.0.len() + MORE;
+            self.day_in(day, plain, room);
         }
     }
 
-    /// A day with so much more room than is sent.
-    fn day_with_room(&mut self, day: &Day, more: usize) {
-        let (bytes, told) = serve_day(day, Pace::Byte);
+    /// A day of which what is sent has only so much room.
+    pub fn day_with_room(&mut self, day: &Day, room: usize) {
+        if self.mine() {
+            self.day_in(day, serve_day(day, Pace::Byte), room);
+        }
+    }
+
+    fn day_in(&mut self, day: &Day, plain: (Vec<u8>, Told), room: usize) {
         let paged = serve_day(day, Pace::Page);
-        let mut plain = bytes.clone();
-        plain.resize(bytes.len() + more, 0);
+        let same_paces = plain == paged;
+        let (mut plain, mut told) = plain;
+        if plain.len() > room {
+            told = TOO_SMALL;
+            plain.clear();
+        }
+        plain.resize(room, 0);
         let mut proved = vec![UNTOUCHED; plain.len()];
         let proved_told = aisle::serve_day(day, &mut proved);
-        let same = (bytes, told) == paged && told == proved_told && plain == proved;
+        let same = same_paces && told == proved_told && plain == proved;
         self.count(same, || {
             let paged = (paged.1, paged.0.as_slice());
             let sides = [
@@ -131,7 +159,7 @@ impl Tally {
     }
 
     fn count(&mut self, same: bool, text: impl FnOnce() -> String) {
-        let kind = self.kinds.last_mut().expect("a kind comes first");
+        let kind = &mut self.kinds[self.at];
         kind.cases += 1;
         if !same {
             kind.differ += 1;

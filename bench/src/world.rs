@@ -7,6 +7,8 @@ use crate::samples::{range, record};
 const PAGE: usize = 4096;
 /// Pages that lie one behind the other in a run of virtual addresses.
 const RUN: usize = 8;
+/// The bytes of a run.
+pub const RUN_BYTES: usize = RUN * PAGE;
 /// Where the memory of the tables and pages begins.
 const BASE: u64 = 0x10_0000;
 const PRESENT: u64 = 3;

@@ -10,11 +10,12 @@ use bench::tally::{Kind, Tally};
 use std::process::ExitCode;
 use std::thread;
 
+const WORKERS: usize = 2;
+
 fn main() -> ExitCode {
-    let workers = thread::available_parallelism().map_or(2, |count| count.get().max(2));
     let tallies: Vec<Tally> = thread::scope(|scope| {
-        let handles: Vec<_> = (0..workers)
-            .map(|worker| scope.spawn(move || run(Tally::new(worker, workers))))
+        let handles: Vec<_> = (0..WORKERS)
+            .map(|worker| scope.spawn(move || run(Tally::new(worker, WORKERS))))
             .collect();
         handles
             .into_iter()

@@ -6,11 +6,12 @@ use bench::tally::Tally;
 use bench::world::World;
 
 const PIECES: [usize; 6] = [0, 1, 7, 64, 2048, usize::MAX];
+const LENGTHS: [usize; 4] = [0, 1, 40, 70];
 
 pub fn compare(tally: &mut Tally) {
     let (wide, file) = (wide_dump(), file());
     tally.kind("reads of small dumps from about every edge");
-    let edges = [
+    let edges: [u64; 21] = [
         0,
         0xff0,
         0x1000,
@@ -53,7 +54,9 @@ pub fn compare(tally: &mut Tally) {
                     first,
                     piece,
                 };
-                tally.read(&read, [0, 1, 40, 70][(first % 4) as usize]);
+                for length in LENGTHS {
+                    tally.read(&read, length);
+                }
             }
         }
     }

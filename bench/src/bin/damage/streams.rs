@@ -1,9 +1,10 @@
 //! Damaged streams around a patch file.
 
 use crate::loads::changes;
-use bench::cart::Day;
+use bench::cart::{Day, serve_day};
 use bench::packets::frame;
 use bench::samples::{SAMPLE_DUMP, SAMPLE_ROOT, after, file, packets, talk, wide_dump};
+use bench::space::Pace;
 use bench::tally::Tally;
 
 pub fn compare(tally: &mut Tally) {
@@ -39,6 +40,8 @@ pub fn compare(tally: &mut Tally) {
     payloads(tally, &day);
     long_frames(tally, &day);
     long_writes(tally, &day);
+    long_streams(tally, &day);
+    little_room(tally, &day);
 }
 
 /// Changes of payloads that are heard, since their sums are right.
@@ -91,7 +94,7 @@ fn payloads(tally: &mut Tally, day: &Day) {
 fn long_frames(tally: &mut Tally, day: &Day) {
     tally.kind("frames about as long as the longest");
     for length in 4090..4106 {
-        for filler in [b'x', b'+', b'-', b'?'] {
+        for filler in [b'x', b'+', b'-', b'$'] {
             let payload = vec![filler; length];
             let mut before = packets(&["?"]);
             before.extend(frame(&payload));
@@ -122,5 +125,41 @@ fn long_writes(tally: &mut Tally, day: &Day) {
                 });
             }
         }
+    }
+}
+
+/// Streams of more bytes than a server has at a time, so that each item comes to lie across the end of its buffer.
+fn long_streams(tally: &mut Tally, day: &Day) {
+    tally.kind("streams longer than a server's buffer");
+    let long = day.before.repeat(4200 / day.before.len() + 2);
+    for shift in 0..day.before.len() + 8 {
+        let before = [&vec![b'+'; shift], long.as_slice(), b"$D#44"].concat();
+        tally.day(&Day {
+            before: &before,
+            ..*day
+        });
+    }
+}
+
+/// Less room than what is sent takes, and just enough.
+fn little_room(tally: &mut Tally, day: &Day) {
+    tally.kind("little room for what is sent");
+    let needed = serve_day(day, Pace::Byte).0.len();
+    for room in 0..needed + 3 {
+        tally.day_with_room(day, room);
+        tally.day_with_room(
+            &Day {
+                file: &day.file[1..],
+                ..*day
+            },
+            room,
+        );
+        tally.day_with_room(
+            &Day {
+                dump: &day.dump[1..],
+                ..*day
+            },
+            room,
+        );
     }
 }
