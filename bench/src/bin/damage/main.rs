@@ -13,15 +13,13 @@ use std::thread;
 const WORKERS: usize = 2;
 
 fn main() -> ExitCode {
-    let tallies: Vec<Tally> = thread::scope(|scope| {
-        let handles: Vec<_> = (0..WORKERS)
-            .map(|worker| scope.spawn(move || run(Tally::new(worker, WORKERS))))
-            .collect();
-        handles
-            .into_iter()
-            .map(|handle| handle.join().expect("a worker ends"))
-            .collect()
-    });
+    let workers: Vec<_> = (0..WORKERS)
+        .map(|worker| thread::spawn(move || run(Tally::new(worker, WORKERS))))
+        .collect();
+    let tallies = workers
+        .into_iter()
+        .map(|worker| worker.join().expect("a worker ends"))
+        .collect();
     report(joined(tallies))
 }
 
