@@ -1,0 +1,23 @@
+use Rattle.std.proofs.Common.{◌≡◌, Ok, Err, sym, ◌∙◌, ap, rules, arith}
+use Rattle.std.proofs.lemmas.Grind.{common_steps}
+use Rattle.carts.proofs.Loading.{holds}
+use Rattle.carts.specs.Carts.{layered}
+use Rattle.exports.specs.Readings.{whole_cart, read_patched}
+use Rattle.exports.proofs.Loads.{loads_dump, accepted, refused}
+use Rattle.exports.proofs.reading.aisle_read.Goals as goal
+
+pub returns-in-Ok : goal.returns-in-Ok
+returns-in-Ok c =
+    let loads = loads_dump _ 64 c.args.dump.now _ _ _ (grind (arith, common_steps)) c.load_lime.ensures.loads in
+    let answer : c.load_lime.result ≡ Ok c.in-Ok.field-0 = search rules in
+    let extents = holds _ _ _ _ loads in
+    let read = accepted _ _ _ (read_patched (whole_cart c.args.dump.now c.args.root.now) c.args.file.now c.args.first c.args.into.now) (sym loads.answers ∙ answer) in
+    let pile = c.layer.ensures ∙ ap (layered c.cr3_in.result) c.new.ensures.means in
+    rw (read, ← extents, ← c.cr3_in.ensures, ← pile) c.read_patched.ensures
+
+pub returns-in-Err : goal.returns-in-Err
+returns-in-Err c =
+    let loads = loads_dump _ 64 c.args.dump.now _ _ _ (grind (arith, common_steps)) c.load_lime.ensures.loads in
+    let answer : c.load_lime.result ≡ Err c.in-Err.not = search rules in
+    let read = refused _ _ _ (read_patched (whole_cart c.args.dump.now c.args.root.now) c.args.file.now c.args.first c.args.into.now) (sym loads.answers ∙ answer) in
+    rw read (record { is = c.refused.ensures; buffer = search rules })

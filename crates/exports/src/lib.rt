@@ -1,0 +1,15 @@
+// The proved libraries for programs in other languages: three functions that such a program links and calls.
+#![tactic(auto)]
+
+mod day;
+mod loading;
+mod reading;
+mod sent;
+mod told;
+#[cfg(test)]
+mod uses;
+
+pub use day::aisle_serve;
+pub use loading::aisle_load;
+pub use reading::aisle_read;
+pub use told::Told;
