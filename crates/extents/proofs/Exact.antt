@@ -1,11 +1,8 @@
-use Rattle.std.proofs.Common.{ℕ, max, Decides, arith}
+use Rattle.std.proofs.Common.{max, Decides, arith}
 use Rattle.std.proofs.lemmas.Grind.{common_steps}
-use Rattle.extents.specs.Bounds.{Bounds, Contains, Overlap, contains, overlaps}
+use Rattle.extents.specs.Bounds.{Bounds, Overlap, overlaps}
 
--- The tests are true exactly where what they test for holds.
-
-pub contains_exact : (x : Bounds) (a : ℕ) → Decides (contains x a) (Contains x a)
-contains_exact x a = grind (arith, common_steps)
+-- The test is true exactly where what it tests for holds.
 
 pub overlaps_exact : (x y : Bounds) → Decides (overlaps x y) (Overlap x y)
 overlaps_exact x y = (

@@ -69,7 +69,7 @@ query payload =
 abbrev pub setting : List ℕ → Result Asked Refusal
 setting payload = if begins (codes "Qaisle.depth:") payload then deepened (drop 13 payload) else Ok unknown
 
--- a character that stands by_itself, or is no name
+-- a command that is a character alone; with more behind it, it is none
 abbrev pub by_itself : Asked → List ℕ → Asked
 by_itself asked [] = asked
 by_itself asked (c ∷ cs) = unknown

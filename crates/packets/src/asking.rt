@@ -1,7 +1,6 @@
 // Commands with arguments, by what stands behind `m` or `M`, and names that begin with `q` or `Q`.
 
 ghost use Rattle.std.specs.Prelude.{◌≡◌, ◌+◌, None, Ok};
-ghost use Rattle.std.specs.Option.{option_map};
 ghost use Rattle.spaces.specs.Edits.{ending, outcome};
 ghost use Rattle.packets.specs.Commands.{meant, meant_by};
 ghost use Rattle.packets.specs.Asking.{addresses, read_of, write_of, all_digits, query, setting};

@@ -4,6 +4,7 @@ ghost use Rattle.std.specs.Prelude.{◌≡◌, ◌*◌, ◌/◌, ◌^◌, ◌<�
 ghost use Rattle.std.specs.Char.{to_ascii_lowercase};
 ghost use Rattle.packets.specs.Digits.{digit, lower, spelled, digits, number, paired, Places, Spells};
 
+// The value of a digit.
 fn digit(c: u8) -> Option<u8>
     ensures value { result ≡ digit c }
     ensures small { IfSome result (λ d. d < 16) }
@@ -16,6 +17,7 @@ fn digit(c: u8) -> Option<u8>
     }
 }
 
+// What `number` answers. The law on the case of digits stands there.
 fn number_in(digits: &[u8]) -> Option<u64>
     ensures { result ≡ number digits.now }
 {

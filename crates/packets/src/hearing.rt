@@ -35,6 +35,7 @@ fn opened(bytes: &[u8]) -> Item<'_>
     }
 }
 
+// What is heard first, of bytes that are no more than the longest frame.
 fn heard(received: &[u8]) -> Item<'_>
     ensures { meant result ≡ heard received.now }
 {
@@ -46,7 +47,7 @@ fn heard(received: &[u8]) -> Item<'_>
     }
 }
 
-// What is heard first in the bytes received. The longest frame has 4,100.
+// What is heard first in the bytes received. The longest frame has 4,100, so no byte behind these matters.
 pub fn hear(received: &[u8]) -> Item<'_>
     ensures is { meant result ≡ heard received.now }
     ensures in_words { Hears received.now (meant result) }

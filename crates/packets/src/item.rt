@@ -33,6 +33,7 @@ impl Item<'_> {
         }
     }
 
+    // Why it is refused, if it is.
     pub fn refusal(self) -> Option<Refusal>
         ensures { result ≡ (said (meant self.entry)).refusal }
     {

@@ -1,4 +1,4 @@
-use Rattle.std.proofs.Common.{◌≡◌, ◌≢◌, ℕ, ◌+◌, ◌-◌, ◌<◌, ◌≤◌, Bool, List, [], ◌++◌, length, drop, Some, None, Ok, Err, Option, Result, refl, sym, subst, ap, ◌∙◌, inl, inr, arith, append_assoc}
+use Rattle.std.proofs.Common.{◌≡◌, ◌≢◌, ℕ, ◌+◌, ◌-◌, ◌<◌, ◌≤◌, Bool, List, [], ◌++◌, length, drop, Some, None, Ok, Err, Option, Result, sym, subst, ap, ◌∙◌, inl, inr, arith, append_assoc}
 use Rattle.std.proofs.lemmas.List.{length-drop, drop-drop, append-nil}
 use Rattle.std.specs.Io.KnownBytes.{Appends}
 use Rattle.std.specs.Result.{IfOk, OnOk}
@@ -11,10 +11,6 @@ use Rattle.packets.proofs.Streaming.{whole_or_not}
 use Rattle.serving.proofs.Serving.{whole_uses, split, turn, all_done, each_item}
 
 -- Items of the bytes received that are served one behind the other.
-
-pub appends_nothing : (o : Option (List ℕ)) → Appends o o []
-appends_nothing None = tt
-appends_nothing (Some xs) = sym (append-nil xs)
 
 pub appends_more : (o p q : Option (List ℕ)) (xs ys : List ℕ) → Appends o p xs → Appends p q ys → Appends o q (xs ++ ys)
 appends_more None p q xs ys a b = tt
@@ -38,9 +34,6 @@ pub record SoFar (known : Bool) (v : Served) (received : List ℕ) (old new : Op
   pub within : used ≤ length received
 
 module _ (known : Bool) (v : Served) (received : List ℕ) (old : Option (List ℕ)) where
-  pub none_yet : SoFar known v received old old 0 v
-  none_yet = record { turns = 0; sent = []; run = refl; appends = appends_nothing old; within = omega arith }
-
   module _ (new : Option (List ℕ)) (used : ℕ) (w : Served) (f : SoFar known v received old new used w) where
     abbrev rest : List ℕ
     rest = drop used received

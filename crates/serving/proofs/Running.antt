@@ -1,4 +1,4 @@
-use Rattle.std.proofs.Common.{◌≡◌, ℕ, ◌+◌, ◌<◌, ◌≤◌, Bool, List, [], ◌++◌, length, drop, Some, None, Ok, Err, Option, Result, refl, sym, subst, ap, ◌∙◌, arith, append_assoc}
+use Rattle.std.proofs.Common.{◌≡◌, ℕ, ◌+◌, ◌<◌, ◌≤◌, Bool, List, ◌++◌, length, drop, Some, None, Ok, Err, Option, Result, sym, subst, ap, ◌∙◌, arith, append_assoc}
 use Rattle.std.proofs.lemmas.List.{append-nil}
 use Rattle.std.specs.Io.KnownBytes.{Appends, Consumes, IsAtEnd}
 use Rattle.std.specs.Result.{OnOk, OnErr}
@@ -11,13 +11,9 @@ use Rattle.serving.specs.Serving.{Served, fresh, Run, behind, serving, all_serve
 use Rattle.serving.specs.Words.{Listens, InPart, Serves, ServesAll, SentInTurn, BreaksOff}
 use Rattle.serving.specs.Reading.{Reads, ServedSoFar, ToTheEnd, InPartOf}
 use Rattle.serving.proofs.Serving.{left_unfinished, left_is, in_pieces, pieces}
-use Rattle.serving.proofs.Listening.{appends_nothing, appends_more, in_items}
+use Rattle.serving.proofs.Listening.{appends_more, in_items}
 
 -- An input that is read and served piece by piece.
-
-consumes_nothing : (o : Option (List ℕ)) → Consumes o o []
-consumes_nothing None = tt
-consumes_nothing (Some xs) = refl
 
 consumes_more : (o p q : Option (List ℕ)) (xs ys : List ℕ) → Consumes o p xs → Consumes p q ys → Consumes o q (xs ++ ys)
 consumes_more None p q xs ys a b = tt
@@ -26,9 +22,6 @@ consumes_more (Some o) (Some p) None xs ys a b = absurd b
 consumes_more (Some o) (Some p) (Some q) xs ys a b = rw (a, b) (sym (append_assoc xs ys q))
 
 module _ (known : Bool) (v : Served) where
-  pub nothing_read : (before old : Option (List ℕ)) → ServedSoFar known v before before old old [] v
-  nothing_read before old = record { stream = []; read = consumes_nothing before; sent = appends_nothing old; server = refl; left = refl }
-
   module _ (before after old new : Option (List ℕ)) (pending : List ℕ) (w : Served) (k : ServedSoFar known v before after old new pending w) where
     -- there is always room to read on
     pub room : length pending < 4100

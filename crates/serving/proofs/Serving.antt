@@ -33,9 +33,6 @@ module _ (known : Bool) where
       → serving known (suc n) v s ≡ then_on (sends known v (heard s)) (λ w. serving known n w (drop (said (heard s)).used s))
   turn n v s w = begun_whole v s (serving known n) (heard s) w
 
-  behind_nothing : (r : Run) → behind [] r ≡ r
-  behind_nothing r = refl
-
   behind_twice : (x y : List ℕ) (r : Run) → behind x (behind y r) ≡ behind (x ++ y) r
   behind_twice x y r = let e = append_assoc x y r.sent in λ i. record { sent = sym e i; served = r.served; left = r.left }
 

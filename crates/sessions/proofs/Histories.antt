@@ -1,10 +1,6 @@
 use Rattle.std.proofs.Common.{◌≡◌, ◌≤◌, ◌⊎◌, [], ◌∷◌, length, refl, inl, inr, arith}
 use Rattle.sessions.specs.Histories.{Event, History, Earlier, same, before}
 
-pub earlier_trans : {a b c : History} → Earlier a b → Earlier b c → Earlier a c
-earlier_trans s same = s
-earlier_trans s (before t) = before (earlier_trans s t)
-
 -- what a history was before its newest event, or the whole
 pub earlier_cases : {k h : History} {e : Event} → Earlier k (e ∷ h) → (k ≡ e ∷ h) ⊎ Earlier k h
 earlier_cases same = inl refl

@@ -52,9 +52,6 @@ module _ (p : Pile) where
   abbrev found : {h k : History} (r : Read h) → Earlier (since r) k → Read k
   found r t = record { payload = r.payload; frame = r.frame; before = r.before; there = t; first = r.first; count = r.count; accepted = r.accepted }
 
-  faults_met : (m : Map) (e : Event) (payload frame : List ℕ) (first count : ℕ) → answered payload frame ≡ e → asked payload ≡ Ok (read first count) → faced m e ≡ (got m (asked_for first count)).fault
-  faults_met m e payload frame first count q a = rw (← q, a) refl
-
   arose_there : (h : History) → Lawful p → EveryFaultAroseThere p h
   arose_there h l few r f (bytes, s) =
       let k = book_kin p r.before l in

@@ -1,12 +1,8 @@
 use Rattle.std.proofs.Common.{◌≡◌, ℕ, suc, ◌+◌, ◌≤◌, max, List, [], ◌∷◌, ◌++◌, length, refl, arith}
 use Rattle.std.proofs.lemmas.Bool.Decides.{nat_tests}
-use Rattle.spaces.specs.declared.patch.Patch.{Patch}
 use Rattle.spaces.specs.Patches.{Patches, Ascending, before, from, laid, replaced}
 
--- patches ascend, one by one
-
-pub linked : (n : ℕ) (p : Patch) (ps : Patches) → Ascending n (p ∷ ps) → (n ≤ p.address) × Ascending (suc p.address) ps
-linked n p ps s = grind (arith, nat_tests)
+-- what an edit leaves ascends
 
 ascending_less : (m n : ℕ) (ps : Patches) → m ≤ n → Ascending n ps → Ascending m ps
 ascending_less m n [] h s = refl
