@@ -1,4 +1,5 @@
 use Rattle.std.specs.Prelude.{ℕ, ◌+◌, ◌*◌, cond, List, [], ◌∷◌, length, take, drop, Some, None, Option, nat_le}
+use Rattle.std.specs.Option.{option_map}
 
 -- the number that bytes make, the lowest first
 abbrev pub little_endian : List ℕ → ℕ
@@ -15,4 +16,4 @@ number_at bytes place width = little_endian (take width (drop place bytes))
 
 -- the same, or none if the bytes end before it does
 abbrev pub number_in : List ℕ → ℕ → ℕ → Option ℕ
-number_in bytes place width = cond (nat_le (place + width) (length bytes)) (Some (number_at bytes place width)) None
+number_in bytes place width = option_map little_endian (bytes_in bytes place width)

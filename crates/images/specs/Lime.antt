@@ -11,25 +11,25 @@ use Rattle.images.specs.Loads.{Load}
 
 -- A LiME file is ranges until its end. A range is a header of 32 bytes and its bytes, one for each address.
 
--- the header's magic is at 0, its version at 4, the first address at 8, the last at 16, and eight bytes are unread
-abbrev pub sound : List ℕ → ℕ → Bool
-sound file place = number_at file place 4 == 0x4C694D45 && (number_at file (place + 4) 4 == 1 && nat_le (number_at file (place + 8) 8) (number_at file (place + 16) 8))
-
-abbrev pub range_at : List ℕ → ℕ → LimeRange
-range_at file place = record { first = number_at file (place + 8) 8; last = number_at file (place + 16) 8; place = place + 32 }
-
--- what the header at a place says, if the file has it whole
+-- what the header at a place says, if the file has it whole; eight bytes of it are unread
 abbrev pub header_in : List ℕ → ℕ → Option Header
 header_in file place = cond (nat_lt (length file) (place + 32)) None
     (Some (record { magic = number_at file place 4; version = number_at file (place + 4) 4; first = number_at file (place + 8) 8; last = number_at file (place + 16) 8 }))
+
+abbrev pub sound : Header → Bool
+sound h = h.magic == 0x4C694D45 && (h.version == 1 && nat_le h.first h.last)
+
+-- the range whose header stands at a place, by what the header says
+abbrev pub range_of : ℕ → Option Header → Result LimeRange Refusal
+range_of place None = Err HeaderCut
+range_of place (Some h) = cond (sound h) (Ok (record { first = h.first; last = h.last; place = place + 32 })) (Err BadHeader)
 
 -- the place behind a range's bytes
 abbrev pub end_of : LimeRange → ℕ
 end_of r = r.place + (r.last - r.first + 1)
 
--- the range whose header stands at a place
 abbrev pub header_at : List ℕ → ℕ → Result LimeRange Refusal
-header_at file place = cond (nat_lt (length file) (place + 32)) (Err HeaderCut) (cond (sound file place) (Ok (range_at file place)) (Err BadHeader))
+header_at file place = range_of place (header_in file place)
 
 -- unless it overlaps one of those before it
 abbrev pub unless_overlap : List LimeRange → Result LimeRange Refusal → Result LimeRange Refusal
