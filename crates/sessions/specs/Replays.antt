@@ -64,26 +64,17 @@ pub record Played : Type 0 where
   pub place : Place
   pub stand : Stand
 
-abbrev pub refused : Bool → State → List ℕ → Played
-refused owes s buffer = record { place = record { outcome = not_allowed; frame = buffer }; stand = record { owes = owes; state = s } }
-
-abbrev pub applies : Bool → State → List ℕ → List ℕ → Played
-applies owes s file buffer = record { place = record { outcome = applied (files.answer_by (files.asked file) s.pile); frame = buffer }; stand = record { owes = owes; state = applied_to s file } }
-
-abbrev pub hears : State → List ℕ → List ℕ → Played
-hears s received buffer = record { place = record { outcome = heard (hearing.heard received); frame = buffer }; stand = record { owes = is_packet (hearing.heard received); state = s } }
+abbrev pub comes : Outcome → List ℕ → Bool → State → Played
+comes outcome buffer owes s = record { place = record { outcome = outcome; frame = buffer }; stand = record { owes = owes; state = s } }
 
 abbrev pub answers : State → List ℕ → List ℕ → Played
-answers s payload buffer = let frame = framed (reply s payload) in
-    record { place = record { outcome = answered (length frame); frame = frame ++ drop (length frame) buffer }; stand = record { owes = false; state = after s payload } }
+answers s payload buffer = let frame = framed (reply s payload) in comes (answered (length frame)) (frame ++ drop (length frame) buffer) false (after s payload)
 
 abbrev pub played_by : Bool → State → Call → List ℕ → Played
-played_by false s (hear received) buffer = hears s received buffer
-played_by false s (answer payload) buffer = refused false s buffer
-played_by false s (apply file) buffer = applies false s file buffer
-played_by true s (hear received) buffer = refused true s buffer
+played_by false s (hear received) buffer = comes (heard (hearing.heard received)) buffer (is_packet (hearing.heard received)) s
 played_by true s (answer payload) buffer = answers s payload buffer
-played_by true s (apply file) buffer = applies true s file buffer
+played_by owes s (apply file) buffer = comes (applied (files.answer_by (files.asked file) s.pile)) buffer owes (applied_to s file)
+played_by owes s c buffer = comes not_allowed buffer owes s
 
 abbrev pub played : Stand → Call → Place → Played
 played g c place = played_by g.owes g.state c place.frame

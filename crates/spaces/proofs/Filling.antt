@@ -1,14 +1,10 @@
 use Rattle.std.proofs.Common.{◌≡◌, ℕ, zero, suc, ◌+◌, ◌-◌, ◌^◌, ◌<◌, ◌≤◌, min, List, ◌∷◌, ◌++◌, length, take, drop, arith}
 use Rattle.spaces.specs.Maps.{Map}
-use Rattle.spaces.specs.Reads.{span, Got, got, room}
+use Rattle.spaces.specs.Reads.{span, Got, got, most, room}
 
 -- bytes in front of what a read gives
 abbrev pub onto : List ℕ → Got → Got
 onto bs g = record { bytes = bs ++ g.bytes; fault = g.fault }
-
--- how many addresses a buffer has room for
-abbrev pub most : ℕ → List ℕ → ℕ
-most first buffer = min (length buffer) (2 ^ 64 - first)
 
 -- a fill under way: n bytes are placed, the rest of the buffer is as it was, and what is still to be read goes behind them
 pub record Filled (m : Map) (first n : ℕ) (before after : List ℕ) : Type 0 where

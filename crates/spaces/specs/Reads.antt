@@ -29,9 +29,12 @@ abbrev pub through : Map → List ℕ → List ℕ
 through m [] = []
 through m (a ∷ xs) = then_through (m a) a (through m xs)
 
--- the addresses from first on that a buffer has room for, none above 2 ^ 64 - 1
+-- how many addresses from first on a buffer has room for, none above 2 ^ 64 - 1, and these addresses
+abbrev pub most : ℕ → List ℕ → ℕ
+most first buffer = min (length buffer) (2 ^ 64 - first)
+
 abbrev pub room : ℕ → List ℕ → List ℕ
-room first buffer = span first (min (length buffer) (2 ^ 64 - first))
+room first buffer = span first (most first buffer)
 
 -- what a fill of a buffer from an address on answers and leaves: bytes in front, and from the count on the buffer as it was
 pub record Fills (m : Map) (first : ℕ) (before after : List ℕ) (r : ℕ × Option Fault) : Type 0 where
