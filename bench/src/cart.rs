@@ -98,7 +98,13 @@ fn serve_stream(cart: &mut Cart, pace: Pace, stream: &[u8], sent: &mut Vec<u8>) 
 pub fn read_patched(read: &Read, pace: Pace, into: &mut [u8]) -> Told {
     let mut cart = match cart(read.dump, read.root, pace) {
         Ok(cart) => cart,
-        Err(refused) => return no_dump(refused),
+        Err(refused) => {
+            return Told {
+                refusal: refused.number,
+                place: refused.place,
+                count: 0,
+            };
+        }
     };
     match patchfile::apply(read.file, &mut cart) {
         Ok(_) => Told {

@@ -16,14 +16,14 @@ pub type Cart<'t, 'f> = Overlay<Paging<FourLevel, Overlay<Image<'t, 'f, LimeRang
 pub const RANGES: usize = 64;
 
 // How many of its bytes count.
-const MOST: usize = 65536;
+pub const DUMP: usize = 65_536;
 
 // The bytes of a dump that count.
 #[tactic(auto, using(std::proofs::lemmas::List::take_min))]
 fn counted(dump: &[u8]) -> &[u8]
     ensures { result.now ≡ counted dump.now }
 {
-    &dump[..MOST.min(dump.len())]
+    &dump[..DUMP.min(dump.len())]
 }
 
 // The image of a dump, or why it is refused.
@@ -40,7 +40,7 @@ fn load_image<'t, 'f>(
 }
 
 // The layers of a cart on an image.
-fn layer<'t, 'f>(image: Image<'t, 'f, LimeRange>, cr3: u64) -> Cart<'t, 'f>
+pub fn layer<'t, 'f>(image: Image<'t, 'f, LimeRange>, cr3: u64) -> Cart<'t, 'f>
     ensures { ⟦<Cart<'t, 'f> as Space>⟧.meaning result ≡ layered cr3 (⟦<Image<'t, 'f, LimeRange> as Space>⟧.meaning image.entry) }
 {
     Overlay::new(Paging::new(FourLevel, cr3, Overlay::new(image)))

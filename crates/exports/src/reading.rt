@@ -1,24 +1,14 @@
 ghost use Rattle.std.specs.Prelude.{◌≡◌};
 ghost use Rattle.spaces.specs.Reads.{Fills};
 ghost use Rattle.spaces.specs.Piles.{shown};
-ghost use Rattle.carts.specs.Carts.{layered};
 ghost use Rattle.exports.specs.Readings.{read_patched, reading, Reads};
 
 use crate::told::Told;
-use carts::{Cart, RANGES, cr3_in};
+use carts::{RANGES, cr3_in, layer};
 use extents::Table;
 use images::{Image, LimeRange, load_lime};
-use overlays::Overlay;
-use paging::{FourLevel, Paging};
 use patchfiles::apply;
 use spaces::{Fault, Space};
-
-// The layers of a cart on an image.
-fn layer<'t, 'f>(image: Image<'t, 'f, LimeRange>, cr3: u64) -> Cart<'t, 'f>
-    ensures { ⟦<Cart<'t, 'f> as Space>⟧.meaning result ≡ layered cr3 (⟦<Image<'t, 'f, LimeRange> as Space>⟧.meaning image.entry) }
-{
-    Overlay::new(Paging::new(FourLevel, cr3, Overlay::new(image)))
-}
 
 // Fills a buffer as `Space::fill` does, in pieces of so many addresses.
 fn fill_in_pieces<S: Space>(

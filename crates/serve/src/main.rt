@@ -2,17 +2,12 @@
 // program counter is told as 0.
 #![tactic(auto)]
 
-use carts::{RANGES, load_cart};
+use carts::{DUMP, RANGES, ROOT, load_cart};
 use images::LimeRange;
 use serving::serve;
 use std::env;
 use std::fs::File;
 use std::io::{self, Read};
-
-// How many bytes count of the dump, and of the file with its root.
-const DUMP: u64 = 65_536;
-
-const ROOT: u64 = 8;
 
 fn main(rt: HostRuntime) -> io::Result<()> {
     let dump = front(&rt, "image.lime", DUMP)?;
@@ -26,10 +21,10 @@ fn main(rt: HostRuntime) -> io::Result<()> {
 }
 
 // So many bytes of a file at the most. A file that cannot be opened is an empty one.
-fn front(rt: &HostRuntime, name: &str, most: u64) -> io::Result<Vec<u8>> {
+fn front(rt: &HostRuntime, name: &str, most: usize) -> io::Result<Vec<u8>> {
     let mut bytes = Vec::new(rt.alloc());
     if let Ok(file) = File::open(rt, name) {
-        file.take(most).read_to_end(&mut bytes)?;
+        file.take(most as u64).read_to_end(&mut bytes)?;
     }
     Ok(bytes)
 }

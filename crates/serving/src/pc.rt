@@ -2,10 +2,9 @@ ghost use Rattle.std.specs.Prelude.{◌≡◌};
 ghost use Rattle.serving.specs.Registers.{registers, MakesPcKnown, OnlyForG};
 
 use packets::{Command, REPLY, frame};
+use sessions::REGISTERS;
 
-// How many letters the registers are, and the first digit of rip and the first behind it.
-const REGISTERS: usize = 328;
-
+// The first digit of rip among the registers, and the first behind it.
 const RIP: usize = 256;
 
 const EFLAGS: usize = RIP + 16;

@@ -5,7 +5,7 @@ use Rattle.spaces.specs.Piles.{Pile, shown}
 use Rattle.packets.specs.Asking.{asked}
 use Rattle.packets.specs.Commands.{read, last_fault}
 use Rattle.packets.specs.Frames.{framed}
-use Rattle.sessions.specs.Answers.{read_text, fault_text, reply, after}
+use Rattle.sessions.specs.Answers.{read_text, fault_reply, reply, after}
 use Rattle.sessions.specs.Shows.{ShownIn}
 use Rattle.sessions.specs.States.{State}
 use Rattle.sessions.specs.Effects.{at_most, asked_for, written_by, met_by}
@@ -79,7 +79,7 @@ module _ (p : Pile) where
   only_fault_frame h payload frame other s t a k l =
       let one = k.told payload frame h same a in
       let another = l.told payload other h same a in
-      one.2 ∙ ap (λ o. framed (fault_text o)) (only_fault one.1 another.1) ∙ sym another.2
+      one.2 ∙ ap (λ o. framed (fault_reply o)) (only_fault one.1 another.1) ∙ sym another.2
 
 pub decides : WhatIsKeptLeavesNothingOpen
 decides p = record { session = only_session p; read_frame = only_read_frame p; fault_frame = only_fault_frame p }

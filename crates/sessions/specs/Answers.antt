@@ -38,9 +38,9 @@ done (Ok u) = codes "OK"
 done (Err refusal) = failed (refusal_number refusal)
 
 -- a fault by its depth, its address and its cause
-abbrev pub fault_text : Option Fault → List ℕ
-fault_text None = codes "none"
-fault_text (Some f) = digits 2 f.depth ++ (codes "," ++ (digits 16 f.address ++ (codes "," ++ digits 2 f.cause)))
+abbrev pub fault_reply : Option Fault → List ℕ
+fault_reply None = codes "none"
+fault_reply (Some f) = digits 2 f.depth ++ (codes "," ++ (digits 16 f.address ++ (codes "," ++ digits 2 f.cause)))
 
 -- the reply to a command
 abbrev pub told : State → Asked → List ℕ
@@ -52,7 +52,7 @@ told s detach = codes "OK"
 told s thread = codes "OK"
 told s supported = codes "PacketSize=1000"
 told s (depth k) = codes "OK"
-told s last_fault = fault_text s.last
+told s last_fault = fault_reply s.last
 told s unknown = []
 
 abbrev pub told_by : State → Result Asked Refusal → List ℕ

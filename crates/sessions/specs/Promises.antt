@@ -13,7 +13,7 @@ use Rattle.packets.specs.Commands.{read, last_fault}
 use Rattle.patchfiles.specs.Runs.{Mark}
 use Rattle.sessions.specs.States.{State}
 use Rattle.sessions.specs.Effects.{at_most, asked_for}
-use Rattle.sessions.specs.Answers.{fault_text}
+use Rattle.sessions.specs.Answers.{fault_reply}
 use Rattle.sessions.specs.Histories.{Event, answered, History, Earlier}
 use Rattle.sessions.specs.Books.{book, in_force, marks, Takes}
 use Rattle.sessions.specs.Shows.{Shows, ShownIn}
@@ -54,7 +54,7 @@ module _ (p : Pile) where
   -- whoever asks for the last fault is told what it was then
   abbrev pub AskedItIsTold : History → Type 0
   AskedItIsTold h = (payload frame : List ℕ) (before : History) → Earlier (answered payload frame ∷ before) h → asked payload ≡ Ok last_fault
-      → (o : Option Fault) × LastFault before o × (frame ≡ framed (fault_text o))
+      → (o : Option Fault) × LastFault before o × (frame ≡ framed (fault_reply o))
 
   -- every fault that a read met arose where it says, under that read's patches
   abbrev pub EveryFaultAroseThere : History → Type 0

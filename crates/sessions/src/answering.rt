@@ -18,8 +18,8 @@ const READ: usize = 2_048;
 // One more than there can be patches: so many bytes decide whether a write is refused.
 const WRITE: usize = 257;
 
-// How many letters tell that no register is known.
-const REGISTERS: usize = 328;
+// How many letters the registers are. Each is `x` where nothing is known.
+pub const REGISTERS: usize = 328;
 
 impl<S: Space> Session<S> {
     fn read(&mut self, first: u64, count: u64, text: &mut [u8; PAYLOAD]) -> usize

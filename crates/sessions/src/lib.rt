@@ -11,6 +11,7 @@ mod session;
 mod texts;
 mod waiting;
 
+pub use answering::REGISTERS;
 pub use call::{Call, Outcome, Slot};
 pub use heard::Heard;
 pub use laws::{

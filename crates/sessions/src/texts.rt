@@ -1,7 +1,7 @@
 // The texts of replies, each in front of a buffer that fits the longest.
 
 ghost use Rattle.std.specs.Prelude.{◌≤◌, length};
-ghost use Rattle.sessions.specs.Answers.{failed, done, spoken, fault_text};
+ghost use Rattle.sessions.specs.Answers.{failed, done, spoken, fault_reply};
 ghost use Rattle.sessions.specs.Texts.{Begins};
 
 use packets::{PAYLOAD, digits};
@@ -46,7 +46,7 @@ pub(crate) fn say_bytes(bytes: &[u8], met: Option<Fault>, text: &mut [u8; PAYLOA
 
 // A fault by its depth, its address and its cause.
 pub(crate) fn say_fault(fault: Option<Fault>, text: &mut [u8; PAYLOAD]) -> usize
-    ensures { Begins (fault_text fault) text.new result }
+    ensures { Begins (fault_reply fault) text.new result }
 {
     let Some(fault) = fault else {
         return say(b"none", text);
