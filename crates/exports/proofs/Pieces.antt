@@ -2,8 +2,8 @@ use Rattle.std.proofs.Common.{◌≡◌, ℕ, zero, suc, ◌+◌, ◌-◌, ◌^�
 use Rattle.std.proofs.lemmas.List.{append_assoc, length-take-le, length-drop, length-append, take_at, drop_at, drop-drop, drop-append-le, take-append-drop}
 use Rattle.spaces.specs.declared.fault.Fault.{Fault}
 use Rattle.spaces.specs.Maps.{Answer, Map}
-use Rattle.spaces.specs.Reads.{span, Got, then_got, got, room, Fills}
-use Rattle.spaces.proofs.Filling.{onto, most}
+use Rattle.spaces.specs.Reads.{span, Got, then_got, got, most, room, Fills}
+use Rattle.spaces.proofs.Filling.{onto}
 use borrow.Rule.Slice.PartMut.{put_mid, mid_of}
 
 -- Reads of addresses one behind the other.
