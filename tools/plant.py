@@ -40,7 +40,7 @@ CODE = [  # a pattern, and what stands for it
     (r" << ", " >> "), (r" >> ", " << "), (r" & (?!mut)", " | "), (r" \| ", " & "), (r" \^ ", " | "),
     (r" \+= ", " -= "), (r" -= ", " += "), (r"\.\.=", ".."), (r"\[\.\.(\w+)\]", r"[\1..]"), (r"\[(\w+)\.\.\]", r"[..\1]"),
     (r"\bif (?!let\b)([^{]+) \{", r"if !(\1) {"), (r"\bSome\(\w+\)(?= *[,;}\n]|$)", "None"), (r"!(?=[a-z(])", ""),
-    (r"\b(\w+), (\w+)\b", r"\2, \1"), (r"\.rev\(\)", ""), (r"\.(iter|iter_mut|chars)\(\)", r".\1().rev()"),
+    (r"\.rev\(\)", ""), (r"\.(iter|iter_mut|chars)\(\)", r".\1().rev()"),
     (r"\.(iter|iter_mut)\(\)", r".\1().skip(1)"), (r"\bif (?!let\b)([^{]+) \{", "if true {"), (r"\bif (?!let\b)([^{]+) \{", "if false {"),
     (r" as (u64|u128|usize)\b", r" as u8 as \1"), (r"^(\s*)([^;{}]*(?: [=!<>]=? |&&|\|\||any\(|all\()[^;{}]*)$", r"\1!(\2)"), (r"\.position\(", ".rposition("),
     (r"\.(min|max|map_err|filter)\([^()]*(\([^()]*\))?[^()]*\)", ""), (r"\((\w[\w.]*)\)", r"(\1 + 1)"),
@@ -75,8 +75,16 @@ def words(line, pairs):
                 yield line[: m.start()] + new + line[m.end():]
 
 
+def swapped(line):
+    """Neighbours in a list change places, but for the fields of a struct, whose order says nothing."""
+    for m in re.finditer(r"\b(\w+), (\w+)\b", line):
+        if line.count("{", 0, m.start()) == line.count("}", 0, m.start()):
+            yield line[: m.start()] + m.expand(r"\2, \1") + line[m.end():]
+
+
 def code_bugs(line):
     yield from patterns(line, CODE)
+    yield from swapped(line)
     yield from numbers(line)
     yield from words(line, PAIRS)
     for m in re.finditer(r"\bb'(\w|[+$#,:-])'", line):
@@ -129,11 +137,11 @@ def other_names(line, names):
 
 def code_lines(lines):
     """The numbers of the lines of code: no clause, ghost member, comment, attribute or `use` line."""
-    ghost = False
+    left_out = False
     for n, line in enumerate(lines):
         s = line.strip()
-        if ghost or re.match(r"(ghost|requires|ensures)\b", s):
-            ghost = "}" not in s and not s.endswith(";")
+        if left_out or re.match(r"(ghost|requires|ensures|use|pub use)\b", s):
+            left_out = "}" not in s and not s.endswith(";")
         elif s and not re.match(r"(//|#|use |pub use |(pub(\(\w+\))? )?(mod|fn|struct|enum|trait|type)\b|impl\b|\w+: [\w<>&' ]+,$)", s):
             yield n
 
