@@ -1,8 +1,10 @@
-use Rattle.std.proofs.Common.{◌≡◌, ℕ, zero, suc, ◌+◌, ◌*◌, ◌<◌, ◌≤◌, ◌⊎◌, inl, inr, List, [], ◌∷◌, length, take, drop, get_or, Some, None, Ok, Err, Option, Result, refl, ap, ◌∙◌, arith, IsSome}
-use Rattle.std.specs.Prelude.{is_some}
+use Rattle.std.proofs.Common.{◌≡◌, ℕ, zero, suc, ◌+◌, ◌*◌, ◌<◌, List, [], ◌∷◌, length, take, drop, get_or, Some, None, Ok, Err, Option, Result, refl, ap, ◌∙◌, arith, true, false, IsSome}
+use Rattle.std.specs.Prelude.{is_none, position}
 use Rattle.std.specs.Simd.{first_chunks}
-use Rattle.std.proofs.lemmas.Bool.{cases_lt}
+use Rattle.std.proofs.lemmas.Bool.Decides.{nat_tests}
 use Rattle.std.proofs.lemmas.List.{drop-drop}
+use Rattle.std.proofs.lemmas.List.Quantifiers.{position-Some}
+use Rattle.std.proofs.lemmas.List.Sums.{fails_before_first}
 use Rattle.spaces.specs.declared.refusal.Refusal.TheVariants.{BadRecord}
 use Rattle.patchfiles.specs.declared.stopped.Stopped.{Stopped}
 use Rattle.patchfiles.specs.Runs.{Mark}
@@ -24,51 +26,51 @@ record_is (suc n) (suc k) bytes h = record_is n k (drop 16 bytes) (omega arith) 
 abbrev pub Before : List (List ℕ) → ℕ → Type 0
 Before raws n = (k : ℕ) → k < n → IsSome (mark_of (get_or raws k []))
 
-before_more : (raw : List ℕ) (raws : List (List ℕ)) (n : ℕ) (m : Mark) → mark_of raw ≡ Some m → Before raws n → Before (raw ∷ raws) (suc n)
-before_more raw raws n m e f zero h = ap is_some e
-before_more raw raws n m e f (suc k) h = f k (omega arith)
-
--- the first malformed record is refused
-pub record Faulty (raws : List (List ℕ)) (n : ℕ) (s : Stopped) : Type 0 where
-  pub at : ℕ
+-- the record at a place is the first that is malformed
+pub record Faulty (raws : List (List ℕ)) (at : ℕ) : Type 0 where
   pub inside : at < length raws
-  pub is : s ≡ record { refusal = BadRecord; index = n + at }
   pub malformed : mark_of (get_or raws at []) ≡ None
   pub before : Before raws at
 
-abbrev pub Formed : List (List ℕ) → ℕ → Result (List Mark) Stopped → Type 0
-Formed raws n (Ok marks) = Before raws (length raws)
-Formed raws n (Err s) = Faulty raws n s
+-- Records are well formed, or one is the first that is not.
+abbrev pub Formed : List (List ℕ) → Option ℕ → Type 0
+Formed raws None = Before raws (length raws)
+Formed raws (Some k) = Faulty raws k
 
-formed_more : (raw : List ℕ) (raws : List (List ℕ)) (n : ℕ) (o : Option Mark) (r : Result (List Mark) Stopped) → mark_of raw ≡ o → Formed raws (suc n) r
-    → Formed (raw ∷ raws) n (in_front n o r)
-formed_more raw raws n None r e f = record { at = 0; inside = omega arith; is = ap (λ (i : ℕ). record { refusal = BadRecord; index = i }) (omega arith); malformed = e; before = λ k h. absurd (omega arith) }
-formed_more raw raws n (Some m) (Ok ms) e f = before_more raw raws (length raws) m e f
-formed_more raw raws n (Some m) (Err s) e f = record {
-  at = suc f.at;
-  inside = omega arith;
-  is = f.is ∙ ap (λ (i : ℕ). record { refusal = BadRecord; index = i }) (omega arith);
-  malformed = f.malformed;
-  before = before_more raw raws f.at m e f.before;
-}
+none_there : (o : Option Mark) → is_none o ≡ true → o ≡ None
+none_there None h = refl
+none_there (Some m) h = absurd cc
 
-pub formed : (raws : List (List ℕ)) (n : ℕ) → Formed raws n (marks_of n raws)
-formed [] n = λ k h. absurd (omega arith)
-formed (raw ∷ raws) n = formed_more raw raws n (mark_of raw) (marks_of (suc n) raws) refl (formed raws (suc n))
+some_there : (o : Option Mark) → is_none o ≡ false → IsSome o
+some_there None h = absurd cc
+some_there (Some m) h = refl
 
--- there is one such record at most
-module _ (raws : List (List ℕ)) (k : ℕ) (inside : k < length raws) (malformed : mark_of (get_or raws k []) ≡ None) where
-  never : IsSome (mark_of (get_or raws k [])) → ⊥
-  never h = cc (ap is_some malformed)
+pub formed : (raws : List (List ℕ)) (first : Option ℕ) → position (λ raw. is_none (mark_of raw)) raws ≡ first → Formed raws first
+formed raws None e = λ k h. some_there _ (fails_before_first (λ raw. is_none (mark_of raw)) raws k [] (grind (arith, nat_tests)))
+formed raws (Some k) e = let f = position-Some (λ raw. is_none (mark_of raw)) raws k [] e in
+    record { inside = f.0; malformed = none_there _ f.1; before = λ i h. some_there _ (f.2 i h) }
 
-  abbrev pub fault : Result (List Mark) Stopped
-  fault = Err (record { refusal = BadRecord; index = k })
+-- Well-formed records have their marks.
+pub mark_there : (o : Option Mark) → IsSome o → (m : Mark) × (o ≡ Some m)
+mark_there None h = absurd cc
+mark_there (Some m) h = (m, refl)
 
-  pub first_fault : Before raws k → (r : Result (List Mark) Stopped) → marks_of 0 raws ≡ r → Formed raws 0 r → r ≡ fault
-  first_fault before (Ok ms) e f = absurd (never (f k inside))
-  first_fault before (Err s) e f = by (cases_lt f.at k) (cases_lt k f.at)
-    where
-      by : ((f.at < k) ⊎ (k ≤ f.at)) → ((k < f.at) ⊎ (f.at ≤ k)) → Err s ≡ fault
-      by (inl l) v = absurd (cc (ap is_some f.malformed, before f.at l))
-      by (inr u) (inl g) = absurd (never (f.before k g))
-      by (inr u) (inr v) = ap (λ (w : Stopped). Err w) (f.is ∙ ap (λ (i : ℕ). record { refusal = BadRecord; index = i }) (omega arith))
+mark_in_front : (raw : List ℕ) (raws : List (List ℕ)) (n : ℕ) (m : Mark) (rest : Result (List Mark) Stopped) → mark_of raw ≡ Some m → marks_of (suc n) raws ≡ rest
+    → marks_of n (raw ∷ raws) ≡ in_front n (Some m) rest
+mark_in_front raw raws n m rest e f = rw (e, f) refl
+
+pub marks_there : (raws : List (List ℕ)) (n : ℕ) → Before raws (length raws) → (marks : List Mark) × (marks_of n raws ≡ Ok marks)
+marks_there [] n f = ([], refl)
+marks_there (raw ∷ raws) n f =
+    let m = mark_there (mark_of raw) (f 0 (omega arith)) in
+    let rest = marks_there raws (suc n) (λ k h. f (suc k) (omega arith)) in
+    (m.0 ∷ rest.0, mark_in_front raw raws n m.0 _ m.1 rest.1)
+
+-- The first malformed record is the refused one.
+pub first_refused : (raws : List (List ℕ)) (n k i : ℕ) → n + k ≡ i → Faulty raws k → marks_of n raws ≡ Err (record { refusal = BadRecord; index = i })
+first_refused [] n k i e f = absurd (omega arith)
+first_refused (raw ∷ raws) n zero i e f = rw f.malformed (ap (λ (j : ℕ). Err (record { refusal = BadRecord; index = j })) (omega arith))
+first_refused (raw ∷ raws) n (suc k) i e f =
+    let m = mark_there (mark_of raw) (f.before 0 (omega arith)) in
+    let behind : Faulty raws k = record { inside = omega arith; malformed = f.malformed; before = λ j h. f.before (suc j) (omega arith) } in
+    mark_in_front raw raws n m.0 _ m.1 (first_refused raws (suc n) k i (omega arith) behind)

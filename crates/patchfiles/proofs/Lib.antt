@@ -1,4 +1,4 @@
-mod Running
-mod Judging
-mod Forms
-mod Ending
+pub mod Running
+pub mod Forms
+pub mod Answering
+pub mod Ending

@@ -20,12 +20,12 @@ module _ (m : Mark) (ms : List Mark) (n : ℕ) (p q : Pile) where
   at_accepted e = grind (arith, common_steps)
 
 -- A record before others: where all are well formed, its mark is the first.
-pub record Splits (raw : List ℕ) (raws : List (List ℕ)) (n : ℕ) (marks : List Mark) : Type 0 where
-  pub first : Mark
-  pub rest : List Mark
-  pub is : marks ≡ first ∷ rest
-  pub reads : mark_of raw ≡ Some first
-  pub ahead : marks_of (suc n) raws ≡ Ok rest
+record Splits (raw : List ℕ) (raws : List (List ℕ)) (n : ℕ) (marks : List Mark) : Type 0 where
+  first : Mark
+  rest : List Mark
+  is : marks ≡ first ∷ rest
+  reads : mark_of raw ≡ Some first
+  ahead : marks_of (suc n) raws ≡ Ok rest
 
 splits : (raw : List ℕ) (raws : List (List ℕ)) (n : ℕ) (marks : List Mark) → marks_of n (raw ∷ raws) ≡ Ok marks → Splits raw raws n marks
 splits raw raws n marks e = by_parts (mark_of raw) (marks_of (suc n) raws) refl refl e
@@ -47,7 +47,7 @@ module _ (records : List (List ℕ)) (marks : List Mark) (old now new : Pile) (i
   runs_to_end h k = let n : i ≡ length records = omega arith in let d = drop_of_length-le records h in let a = u.ahead in grind (arith, common_steps)
 
   module _ (inside : i < length records) where
-    pub here : Splits (get_or records i []) (drop (suc i) records) i u.rest
+    here : Splits (get_or records i []) (drop (suc i) records) i u.rest
     here = splits _ _ i u.rest (subst (λ (l : List (List ℕ)). marks_of i l ≡ Ok u.rest) (drop-cons records i [] inside) u.ahead)
 
     edits : (r : Outcome) → Makes (mark_of (get_or records i [])) now new r → Edits now new here.first.depth here.first.edit r
