@@ -173,15 +173,26 @@ def planted(crate, specs):
                         yield 1, path, n, lines[n], new
 
 
-def check(repository, crate):
-    r = subprocess.run(["rt", "check"], cwd=os.path.join(repository, "crates", crate), capture_output=True, text=True)
+def check(repository, crate, *flags):
+    r = subprocess.run(["rt", "check", "--jobs", "1", *flags], cwd=os.path.join(repository, "crates", crate), capture_output=True, text=True)
     return r.returncode, r.stdout + r.stderr
 
 
+def function_at(crate, path, n, lines, known):
+    """The name by which the prover knows the function of a line, if it is the only one of that name in its file."""
+    for line in reversed(lines[: n + 1]):
+        m = re.search(r"\bfn (\w+)", line)
+        if m:
+            module = path.split("/src/")[1][: -len(".rt")].replace("/", "::")
+            fit = [x for x in known if x.startswith(f"{crate}::{module}::") and x.split("::")[-1] == m.group(1) and "::fn::" not in x]
+            return fit[0] if len(fit) == 1 else None
+    return None
+
+
 def verdict(code, said, specs):
-    if code == 0 and "logic=proved" in said:
+    if code == 0:
         return "SURVIVES"
-    if "logic=" not in said or (specs and re.search(r"^specs/\S+: error", said, re.M)):
+    if not re.search(r"^(logic|only)=", said, re.M) or (specs and re.search(r"^specs/\S+: error", said, re.M)):
         return "no program"
     return "refused"
 
@@ -221,6 +232,7 @@ def main():
         free.put(copy)
         if verdict(code, said, a.specs) != "SURVIVES":
             sys.exit(f"{a.crate} is not proved without a bug: {first_error(said)}")
+        known = re.findall(r"^fn (\S+): proved", said, re.M)
 
         judged = []
 
@@ -235,7 +247,10 @@ def main():
                 lines[n] = new
                 with open(os.path.join(copy, path), "w") as f:
                     f.write("\n".join(lines))
-                code, said = check(copy, a.crate)
+                name = None if a.specs else function_at(a.crate, path, n, lines, known)
+                code, said = check(copy, a.crate, *(["--only", name] if name else []))
+                if name and code == 0:  # the function itself is proved: now all that stands on it
+                    code, said = check(copy, a.crate)
                 shutil.copyfile(path, os.path.join(copy, path))
                 mark = verdict(code, said, a.specs)
                 if mark != "no program":
