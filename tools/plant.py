@@ -42,7 +42,7 @@ CODE = [  # a pattern, and what stands for it
     (r"\bif (?!let\b)([^{]+) \{", r"if !(\1) {"), (r"\bSome\(\w+\)(?= *[,;}\n]|$)", "None"), (r"!(?=[a-z(])", ""),
     (r"\.rev\(\)", ""), (r"\.(iter|iter_mut|chars)\(\)", r".\1().rev()"),
     (r"\.(iter|iter_mut)\(\)", r".\1().skip(1)"), (r"\bif (?!let\b)([^{]+) \{", "if true {"), (r"\bif (?!let\b)([^{]+) \{", "if false {"),
-    (r" as (u64|u128|usize)\b", r" as u8 as \1"), (r"^(\s*)([^;{}]*(?: [=!<>]=? |&&|\|\||any\(|all\()[^;{}]*)$", r"\1!(\2)"), (r"\.position\(", ".rposition("),
+    (r" as (u128|usize)\b", r" as u8 as \1"), (r"^(\s*)([^;{}]*(?: [=!<>]=? |&&|\|\||any\(|all\()[^;{}]*)$", r"\1!(\2)"), (r"\.position\(", ".rposition("),
     (r"\.(min|max|map_err|filter)\([^()]*(\([^()]*\))?[^()]*\)", ""), (r"\((\w[\w.]*)\)", r"(\1 + 1)"),
 ]
 STATEMENT = re.compile(r"^\s*([\w.\[\]*]+ (=|\+=|-=|\|=|\^=) [^=].*|[\w.]+\([^;]*\)\??);$")
@@ -97,7 +97,8 @@ def code_bugs(line):
         yield line[: m.start(1)] + other + line[m.end(1):]
     if STATEMENT.match(line):
         yield re.match(r"^\s*", line).group(0) + "{}"
-        yield line + line.strip()
+        if " = " not in line:
+            yield line + line.strip()
 
 
 def spec_bugs(line):
