@@ -151,13 +151,20 @@ def spec_lines(lines):
     return [n for n, line in enumerate(lines) if line.strip() and not re.match(r"\s*(--|use )", line)]
 
 
+def tests_of(crate):
+    """The modules of a crate that are tests."""
+    root = open(os.path.join("crates", crate, "src", "lib.rt")).read()
+    return set(re.findall(r"#\[cfg\(test\)\]\nmod (\w+);", root))
+
+
 def planted(crate, specs):
     folder, end = ("specs", ".antt") if specs else ("src", ".rt")
+    tests = tests_of(crate)
     for at, _, names in sorted(os.walk(os.path.join("crates", crate, folder))):
         if f"{folder}/declared" in at:
             continue
         for name in sorted(names):
-            if not name.endswith(end) or name == "Lib.antt":
+            if not name.endswith(end) or name == "Lib.antt" or name[: -len(end)] in tests:
                 continue
             path = os.path.join(at, name)
             lines = open(path).read().split("\n")
