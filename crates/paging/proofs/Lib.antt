@@ -5,4 +5,5 @@ pub mod Ways
 pub mod Lengths
 pub mod Answering
 pub mod Showing
+pub mod Pages
 pub mod Examples

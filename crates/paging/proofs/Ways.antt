@@ -67,17 +67,24 @@ module _ (p : Format) (m : Map) (a : ℕ) where
       step None q rest = by _ (_, (_, grind arith, refl), refl) (sound.entry (suc l) (little_endian (got m (entry_bytes p (suc l) table a)).bytes) (omega arith) k) rest
       step (Some f) q rest = inr (_, _, rel.Stops.missing q)
 
+  -- what a sound scheme says of a page that an entry leads to
+  leaf : Sound p → (l table : ℕ) {e : Entry} {pg : Page} → EntryIs p m a (suc l) table (Some e) → e.target ≡ Leaf pg → suc l ≤ p.levels → Placed pg × Alike p (suc l) pg.size
+  leaf sound l table (raw, h, q) s k = rw (q, s) at (sound.entry (suc l) raw (omega arith) k)
+
+  pub leads_placed : Sound p → {l table : ℕ} {reads : List ℕ} {pg : Page} → Leads p m a l table reads pg → l ≤ p.levels → Placed pg
+  leads_placed sound (rel.Leads.page h s) k = (leaf sound _ _ h s k).0
+  leads_placed sound (rel.Leads.next h s c) k = leads_placed sound c (omega arith)
+
   -- The addresses of the page that a chain leads to have the same indices on the way, so the same chain.
   module _ (sound : Sound p) (b : ℕ) where
     abbrev Same : (l : ℕ) → Type 0
     Same l = (p.lawful a ≡ p.lawful b) × ((k : ℕ) → l ≤ k → p.index k a ≡ p.index k b)
 
     pub leads_alike : {l table : ℕ} {reads : List ℕ} {pg : Page} → Leads p m a l table reads pg → l ≤ p.levels → a / pg.size ≡ b / pg.size → Same l × Leads p m b l table reads pg
-    leads_alike (rel.Leads.page {l = l} {table = table} {e = e} {pg = pg} (raw, h, q) s) k same-page =
-        let leads : Placed pg × Alike p (suc l) pg.size = rw (q, s) at (sound.entry (suc l) raw (omega arith) k) in
-        let same = leads.1 a b same-page in
+    leads_alike (rel.Leads.page {l = l} {table = table} h s) k same-page =
+        let same = (leaf sound l table h s k).1 a b same-page in
         let index = same.1 (suc l) (omega arith) in
-        (same, rw index (rel.Leads.page (raw, rw index at h, q) s))
+        (same, rw index (rel.Leads.page (rw index at h) s))
     leads_alike (rel.Leads.next {l = l} h s c) k same-page =
         let (same, chain) = leads_alike c (omega arith) same-page in
         let index = same.1 (suc l) (omega arith) in

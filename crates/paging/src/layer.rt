@@ -5,7 +5,7 @@ ghost use Rattle.paging.specs.Layers.{paging_on, paging_lawful, Translated, Edit
 use crate::scheme::Scheme;
 use crate::translation::Translation;
 use crate::walk::{byte_below, walk};
-use spaces::{Edit, Fault, Refusal, Space, Watched, edit_under, watched_set};
+use spaces::{Edit, Fault, Refusal, Space, Watched, edit_under, fill_below, most, watched_set};
 
 // A space as the tables in the space below show it, from the root table by CR3 on.
 #[derive(Drop)]
@@ -48,6 +48,27 @@ impl<P: Scheme, S: Space> Space for Paging<P, S> {
     fn byte(&self, at: u64) -> Result<u8, Fault> {
         let place = self.translate(at)?.address;
         byte_below(&self.below, place)
+    }
+
+    // One translation for each page that the buffer touches: all its addresses translate alike.
+    fn fill(&self, first: u64, out: &mut [u8]) -> (usize, Option<Fault>) {
+        let room = most(first, out);
+        let mut count = 0;
+        while count < room {
+            let at = first + count as u64;
+            let place = match self.translate(at) {
+                Ok(place) => place,
+                Err(fault) => return (count, Some(fault)),
+            };
+            let left = place.size - at % place.size;
+            let end = count + left.min((room - count) as u64) as usize;
+            let (placed, fault) = fill_below(&self.below, place.address, &mut out[count..end]);
+            count += placed;
+            if count < end {
+                return (count, fault);
+            }
+        }
+        (count, None)
     }
 
     fn edit(&mut self, depth: u8, edit: Edit<'_>) -> Result<(), Refusal> {
