@@ -1,5 +1,6 @@
-use Rattle.std.proofs.Common.{◌≡◌, ℕ, zero, suc, ◌+◌, ◌-◌, ◌^◌, ◌<◌, ◌≤◌, min, ◌⊎◌, List, [], ◌∷◌, ◌++◌, length, take, drop, Some, None, Err, Option, refl, sym, ap, ◌∙◌, inl, inr, arith}
+use Rattle.std.proofs.Common.{◌≡◌, ℕ, zero, suc, ◌+◌, ◌-◌, ◌^◌, ◌<◌, ◌≤◌, min, ◌⊎◌, List, [], ◌∷◌, ◌++◌, length, take, drop, set, Some, None, Ok, Err, Option, refl, sym, ap, ◌∙◌, inl, inr, arith}
 use Rattle.std.specs.Option.{option_map}
+use Rattle.std.proofs.lemmas.Grind.{common_steps}
 use Rattle.std.proofs.lemmas.List.{append-nil, append_assoc, length-take-le, length-drop, length-append, take-append-drop, drop_all, drop-drop, drop-append-le}
 use Rattle.std.proofs.lemmas.Slice.{take-put_mid, drop-put_mid}
 use borrow.Rule.Slice.PartMut.{put_mid, mid_of, same_len_mid}
@@ -93,6 +94,15 @@ module _ (m : Map) (first n : ℕ) (before now : List ℕ) (so : Filled m first 
   stopped f h e =
       let whole : got m (room first before) ≡ record { bytes = take n now; fault = Some f } = so.so_far ∙ rw (span_more (first + n) (most first before - n) (omega arith), e, append-nil) in
       record { count = rw whole (omega (arith, length-take-le n now)); fault = rw whole; buffer = rw whole (grind (arith, so.rest, take-append-drop n now)) }
+
+  -- the next address has a byte
+  pub placed : (b : ℕ) → n < most first before → m (first + n) ≡ Ok b → Filled m first (n + 1) before (set now n b)
+  placed b h e = record {
+    long = grind (arith, common_steps, so.long);
+    within = omega arith;
+    rest = grind (arith, common_steps, so.long, so.rest);
+    so_far = so.so_far ∙ grind (arith, common_steps, so.long, span_more (first + n) (most first before - n));
+  }
 
   -- A part of k bytes is filled next.
   module _ (k at : ℕ) (part : List ℕ) (r : ℕ × Option Fault) (fits : n + k ≤ length before) (place : at ≡ first + n) (f : Fills m at (mid_of n k now) part r) where
