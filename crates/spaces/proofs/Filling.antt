@@ -1,8 +1,7 @@
-use Rattle.std.proofs.Common.{◌≡◌, ℕ, ◌+◌, ◌-◌, ◌^◌, ◌<◌, ◌≤◌, min, List, [], ◌∷◌, ◌++◌, length, take, drop, set, Some, None, Ok, Err, Option, refl, sym, ap, ◌∙◌, arith}
+use Rattle.std.proofs.Common.{◌≡◌, ℕ, ◌+◌, ◌-◌, ◌<◌, ◌≤◌, List, [], ◌∷◌, ◌++◌, length, take, drop, set, Some, None, Ok, Err, Option, refl, sym, ap, ◌∙◌, arith}
 use Rattle.std.specs.Option.{option_map}
 use Rattle.std.proofs.lemmas.Grind.{common_steps}
 use Rattle.std.proofs.lemmas.List.{append-nil, append_assoc, length-take-le, length-drop, length-append, take-append-drop, take_at, drop_at, drop-drop, drop-append-le}
-use Rattle.std.proofs.lemmas.Slice.{take-put_mid, drop-put_mid}
 use borrow.Rule.Slice.PartMut.{put_mid, mid_of, same_len_mid}
 use Rattle.spaces.specs.declared.fault.Fault.{Fault}
 use Rattle.spaces.specs.Maps.{Map, climbed, raised}
@@ -39,6 +38,16 @@ placed m at before after r f =
       ends = λ h. let e = t.ends (omega arith) in (e.0, f.fault ∙ e.1, ap (λ (n : ℕ). m (at + n)) f.count ∙ e.2);
     }
 
+-- behind what was placed in a part, the buffer is as it was
+pub behind : (m : Map) (at n k : ℕ) (now part : List ℕ) (r : ℕ × Option Fault) → Placed m at (mid_of n k now) part r → n ≤ length now → drop (n + r.0) (put_mid n k now part) ≡ drop (n + r.0) now
+behind m at n k now part r p h =
+    let few = p.few in
+    let long = p.long in
+    let left : drop r.0 part ++ drop k (drop n now) ≡ drop r.0 (drop n now) =
+    rw p.rest (sym (drop-append-le r.0 (mid_of n k now) (drop k (drop n now)) p.few) ∙ ap (drop r.0) (take-append-drop k (drop n now))) in
+    sym (drop-drop r.0 n (put_mid n k now part)) ∙ ap (drop r.0) (drop_at (take n now) _ n (length-take-le n now h))
+    ∙ drop-append-le r.0 part (drop k (drop n now)) (omega arith) ∙ left ∙ drop-drop r.0 n now
+
 module _ (m : Map) (first n : ℕ) (before now : List ℕ) (so : Filled m first n before now) where
   -- no address is left
   pub all_filled : most first before ≤ n → Fills m first before now (n, None)
@@ -60,7 +69,7 @@ module _ (m : Map) (first n : ℕ) (before now : List ℕ) (so : Filled m first 
       let count : most first before - n ≡ k + (most first before - (n + k)) = omega arith in
       let place : first + n + k ≡ first + (n + k) = omega arith in
       let behind : got m (span (first + n) (most first before - n)) ≡ onto bs (got m (span (first + (n + k)) (most first before - (n + k)))) =
-        ap (λ (x : ℕ). got m (span (first + n) x)) count ∙ ap (got m) (span_over (first + n) k _) ∙ got_over m (span (first + n) k) _ bs e ∙ ap (λ (x : ℕ). onto bs (got m (span x (most first before - (n + k))))) place in
+      ap (λ (x : ℕ). got m (span (first + n) x)) count ∙ ap (got m) (span_over (first + n) k _) ∙ got_over m (span (first + n) k) _ bs e ∙ ap (λ (x : ℕ). onto bs (got m (span x (most first before - (n + k))))) place in
       record {
         long = l ∙ so.long;
         within = h;
@@ -72,33 +81,26 @@ module _ (m : Map) (first n : ℕ) (before now : List ℕ) (so : Filled m first 
   pub one_more : (b : ℕ) → n < most first before → m (first + n) ≡ Ok b → Filled m first (n + 1) before (set now n b)
   one_more b h e = let l = so.long in more 1 (b ∷ []) (set now n b) (omega arith) (grind arith) (grind (arith, common_steps)) (grind (arith, common_steps)) (grind (arith, common_steps))
 
+  pub part_long : (k : ℕ) → n + k ≤ most first before → length (mid_of n k now) ≡ k
+  part_long k h = length-take-le k (drop n now) (let l = so.long in rw (length-drop n now) (omega arith))
+
 -- A part of k bytes is filled next.
 module _ (m : Map) (first n k : ℕ) (before now part : List ℕ) (r : ℕ × Option Fault) (so : Filled m first n before now) (fits : n + k ≤ most first before)
     (f : Fills m (first + n) (mid_of n k now) part r) where
-  lent : length (mid_of n k now) ≡ k
-  lent = length-take-le k (drop n now) (let l = so.long in rw (length-drop n now) (omega arith))
-
   p : Placed m (first + n) (mid_of n k now) part r
   p = placed m (first + n) (mid_of n k now) part r f
 
-  -- of the part from the count on, and behind it, the buffer is as it was
-  left : drop r.0 part ++ drop k (drop n now) ≡ drop r.0 (drop n now)
-  left = rw p.rest (sym (drop-append-le r.0 (mid_of n k now) (drop k (drop n now)) p.few) ∙ ap (drop r.0) (take-append-drop k (drop n now)))
-
   pub part_filled : Filled m first (n + r.0) before (put_mid n k now part)
   part_filled =
-      let l = lent in
+      let l = part_long m first n before now so k fits in
       let few = p.few in
       let long = p.long in
       let same = so.long in
-      more m first n before now so r.0 (take r.0 part) (put_mid n k now part) (omega arith) p.bytes (same_len_mid n k now part p.long) (grind (arith, common_steps)) (
-        sym (drop-drop r.0 n (put_mid n k now part)) ∙ ap (drop r.0) (drop_at (take n now) _ n (length-take-le n now (omega arith)))
-        ∙ drop-append-le r.0 part (drop k (drop n now)) (omega arith) ∙ left ∙ drop-drop r.0 n now
-      )
+      more m first n before now so r.0 (take r.0 part) (put_mid n k now part) (omega arith) p.bytes (same_len_mid n k now part p.long) (grind (arith, common_steps)) (behind m (first + n) n k now part r p (omega arith))
 
   pub part_stopped : r.0 < k → Fills m first before (put_mid n k now part) (n + r.0, r.1)
   part_stopped h =
-      let l = lent in
+      let l = part_long m first n before now so k fits in
       let e = p.ends (omega arith) in
       rw (e.1) (stopped m first (n + r.0) before (put_mid n k now part) part_filled (e.0) (omega arith) (grind (arith, e.2)))
 
