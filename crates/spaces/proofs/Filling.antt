@@ -49,13 +49,6 @@ behind m at n k now part r p h =
     ∙ drop-append-le r.0 part (drop k (drop n now)) (omega arith) ∙ left ∙ drop-drop r.0 n now
 
 module _ (m : Map) (first n : ℕ) (before now : List ℕ) (so : Filled m first n before now) where
-  -- no address is left
-  pub all_filled : most first before ≤ n → Fills m first before now (n, None)
-  all_filled h =
-      let none : most first before - n ≡ 0 = omega arith in
-      let all : got m (room first before) ≡ whole (take n now) = so.so_far ∙ rw (none, append-nil) in
-      record { count = rw all (omega (arith, length-take-le n now)); fault = rw all; buffer = rw all (grind (arith, so.rest, take-append-drop n now)) }
-
   -- the next address has a fault
   pub stopped : (f : Fault) → n < most first before → m (first + n) ≡ Err f → Fills m first before now (n, Some f)
   stopped f h e =
