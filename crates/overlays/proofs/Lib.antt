@@ -1,2 +1,3 @@
 pub mod Parting
 pub mod Replacing
+pub mod Stretches

@@ -4,7 +4,7 @@ ghost use Rattle.spaces.proofs.Lawful.{on_lawful};
 ghost use Rattle.overlays.specs.Tables.{held, held_lawful};
 
 use crate::table::PatchTable;
-use spaces::{Edit, Fault, Refusal, Space, climb};
+use spaces::{Edit, Fault, Refusal, Space, climb, fill_below, most};
 
 // A layer of patches over the space below.
 #[derive(Drop)]
@@ -36,6 +36,30 @@ impl<S: Space> Space for Overlay<S> {
             Some(b) => b,
             None => climb(self.below.byte(at))?,
         })
+    }
+
+    // The space below fills the stretches between patches, and is not asked for a patched byte.
+    fn fill(&self, first: u64, out: &mut [u8]) -> (usize, Option<Fault>) {
+        let room = most(first, out);
+        let mut count = 0;
+        while count < room {
+            let at = first + count as u64;
+            match self.patches.lookup(at) {
+                Some(byte) => {
+                    out[count] = byte;
+                    count += 1;
+                }
+                None => {
+                    let end = count + self.patches.stretch(at, room - count);
+                    let (placed, fault) = fill_below(&self.below, at, &mut out[count..end]);
+                    count += placed;
+                    if count < end {
+                        return (count, fault);
+                    }
+                }
+            }
+        }
+        (count, None)
     }
 
     fn edit(&mut self, depth: u8, edit: Edit<'_>) -> Result<(), Refusal> {
