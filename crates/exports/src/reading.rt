@@ -3,12 +3,13 @@ ghost use Rattle.spaces.specs.Reads.{Fills};
 ghost use Rattle.spaces.specs.Piles.{shown};
 ghost use Rattle.exports.specs.Readings.{read_patched, reading, Reads};
 
+use crate::bytewise::Bytewise;
 use crate::told::Told;
 use carts::{RANGES, cr3_in, layer};
 use extents::Table;
 use images::{Image, LimeRange, load_lime};
 use patchfiles::apply;
-use spaces::{Fault, Space};
+use spaces::{Fault, Space, most};
 
 // Fills a buffer as `Space::fill` does, in pieces of so many addresses.
 fn fill_in_pieces<S: Space>(
@@ -20,13 +21,11 @@ fn fill_in_pieces<S: Space>(
     ensures { Fills (shown (S.Space.meaning space.now)) first into.old into.new result }
 {
     let size = piece.max(1);
+    let room = most(first, into);
     let mut count = 0;
-    while count < into.len() {
-        let Some(at) = first.checked_add(count as u64) else {
-            return (count, None);
-        };
-        let end = count + size.min(into.len() - count);
-        let (placed, fault) = space.fill(at, &mut into[count..end]);
+    while count < room {
+        let end = count + size.min(room - count);
+        let (placed, fault) = space.fill(first + count as u64, &mut into[count..end]);
         count += placed;
         if count < end {
             return (count, fault);
@@ -52,9 +51,54 @@ fn read_patched<S: Space + Drop>(
     }
 }
 
-// Reads the cart of a dump, all of its bytes, and a root file under a patch file, from an address on up to the first fault, the
-// buffer's end or the last address, in pieces of so many addresses. Tells the refusal of the dump with the place in it, or that of
-// the patch file with the record's index, or how many bytes were placed.
+// The same by the space's own fills, or byte by byte.
+fn read_either_way<S: Space + Drop>(
+    space: S,
+    bytewise: bool,
+    file: &[u8],
+    first: u64,
+    piece: usize,
+    into: &mut [u8],
+) -> Told
+    ensures { Reads (read_patched (S.Space.meaning space) file.now first into.old) result into.old into.new }
+{
+    if bytewise {
+        read_patched(Bytewise { within: space }, file, first, piece, into)
+    } else {
+        read_patched(space, file, first, piece, into)
+    }
+}
+
+// Reads the cart of a dump, all of its bytes, and a root file.
+fn read_cart(
+    dump: &[u8],
+    root: &[u8],
+    bytewise: bool,
+    file: &[u8],
+    first: u64,
+    piece: usize,
+    into: &mut [u8],
+) -> Told
+    ensures { Reads (reading dump.now root.now file.now first into.old) result into.old into.new }
+{
+    let mut memory = [LimeRange::default(); RANGES];
+    let mut table = Table::new(&mut memory);
+    match load_lime(dump, &mut table) {
+        Ok(_) => read_either_way(
+            layer(Image::new(table, dump), cr3_in(root)),
+            bytewise,
+            file,
+            first,
+            piece,
+            into,
+        ),
+        Err(not) => Told::refused(not.refusal, not.place, 0),
+    }
+}
+
+// Reads a cart from an address on up to the first fault, the buffer's end or the last address, in pieces of so many addresses.
+// Tells the refusal of the dump with the place in it, or that of the patch file with the record's index, or how many bytes were
+// placed.
 #[unsafe(no_mangle)]
 pub extern "C" fn aisle_read(
     dump: &[u8],
@@ -67,16 +111,21 @@ pub extern "C" fn aisle_read(
 )
     ensures { Reads (reading dump.now root.now file.now first into.old) told.new into.old into.new }
 {
-    let mut memory = [LimeRange::default(); RANGES];
-    let mut table = Table::new(&mut memory);
-    *told = match load_lime(dump, &mut table) {
-        Ok(_) => read_patched(
-            layer(Image::new(table, dump), cr3_in(root)),
-            file,
-            first,
-            piece,
-            into,
-        ),
-        Err(not) => Told::refused(not.refusal, not.place, 0),
-    };
+    *told = read_cart(dump, root, false, file, first, piece, into);
+}
+
+// Answers what `aisle_read` does, and walks the tables anew for each byte: for comparison.
+#[unsafe(no_mangle)]
+pub extern "C" fn aisle_read_bytewise(
+    dump: &[u8],
+    root: &[u8],
+    file: &[u8],
+    first: u64,
+    piece: usize,
+    into: &mut [u8],
+    told: &mut Told,
+)
+    ensures { Reads (reading dump.now root.now file.now first into.old) told.new into.old into.new }
+{
+    *told = read_cart(dump, root, true, file, first, piece, into);
 }

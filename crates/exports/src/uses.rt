@@ -1,6 +1,6 @@
 use crate::day::aisle_serve;
 use crate::loading::aisle_load;
-use crate::reading::aisle_read;
+use crate::reading::{aisle_read, aisle_read_bytewise};
 use crate::told::Told;
 use std::test::Fail;
 
@@ -68,21 +68,31 @@ fn serves(rt: HostRuntime) -> Result<(), Fail> {
     Ok(())
 }
 
-// Of the four bytes two are patched, and the others fault.
+// Of four bytes two are patched, and the others fault.
+const TWO_READ: Told = Told {
+    refusal: 0,
+    place: 0,
+    count: 2,
+};
+
 #[test]
 fn reads(rt: HostRuntime) -> Result<(), Fail> {
     for piece in 0..6 {
         let mut told = NOTHING;
         let mut into = [0xee; 4];
         aisle_read(&DUMP, &[], &FILE, 0x10, piece, &mut into, &mut told);
-        assert!(rt;
-            told == Told {
-                refusal: 0,
-                place: 0,
-                count: 2
-            }
-        );
+        assert!(rt; told == TWO_READ);
         assert!(rt; into == [0x41, 0x42, 0xee, 0xee]);
     }
+    Ok(())
+}
+
+#[test]
+fn reads_bytewise(rt: HostRuntime) -> Result<(), Fail> {
+    let mut told = NOTHING;
+    let mut into = [0xee; 4];
+    aisle_read_bytewise(&DUMP, &[], &FILE, 0x10, 4, &mut into, &mut told);
+    assert!(rt; told == TWO_READ);
+    assert!(rt; into == [0x41, 0x42, 0xee, 0xee]);
     Ok(())
 }

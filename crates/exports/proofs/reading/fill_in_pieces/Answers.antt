@@ -1,10 +1,10 @@
-use Rattle.std.proofs.Common.{rules}
-use Rattle.exports.proofs.Pieces.{placed, filled}
+use Rattle.std.proofs.Common.{arith}
+use Rattle.spaces.proofs.Filling.{filled_on, filled_to}
 use Rattle.exports.proofs.reading.fill_in_pieces.Goals as goal
 
 pub returns-then-count-end : goal.returns-then-count-end
-returns-then-count-end g c = filled _ _ _ _ _ _ _ _ _ c.loop-count.invariant.1 (search rules) (search rules) c.fill-placed.ensures (search rules)
+returns-then-count-end g c = filled_to _ _ _ _ _ c.loop-count.invariant.1 _ _ _ _ (omega arith) (omega arith) c.fill-placed.ensures (omega arith)
 
 pub loop-count-preserved : goal.loop-count-preserved
 loop-count-preserved g c =
-    (c.loop-count.invariant.0, placed _ _ _ _ _ _ _ _ _ c.loop-count.invariant.1 (search rules) (search rules) c.fill-placed.ensures (search rules))
+    (c.loop-count.invariant.0, filled_on _ _ _ _ _ c.loop-count.invariant.1 _ _ _ _ (omega arith) (omega arith) c.fill-placed.ensures (omega arith))
