@@ -1,3 +1,4 @@
 pub mod Parting
 pub mod Replacing
+pub mod Laying
 pub mod Stretches

@@ -1,4 +1,5 @@
-use Rattle.std.specs.Prelude.{◌≡◌, ℕ, ◌+◌, ◌<◌, ◌≤◌, true, is_some, None}
+use Rattle.std.specs.Prelude.{ℕ, suc, List, [], ◌∷◌}
+use Rattle.std.specs.Option.{unwrap_or}
 use Rattle.spaces.specs.Patches.{Patches, LawfulPatches, lookup}
 use Rattle.overlays.specs.declared.table.PatchTable.{PatchTable}
 
@@ -10,8 +11,7 @@ held t = t.patches.items
 pub held_lawful : (t : PatchTable) → LawfulPatches (held t)
 held_lawful t = t.lawful
 
--- of so many addresses from one on the first n are not patched, and the next one is, if there are more
-pub record Stretch (ps : Patches) (at room n : ℕ) : Type 0 where
-  pub within : n ≤ room
-  pub clear : (i : ℕ) → i < n → lookup ps (at + i) ≡ None
-  pub ends : n < room → is_some (lookup ps (at + n)) ≡ true
+-- bytes of consecutive addresses, with the patches laid over them
+abbrev pub laid_over : Patches → ℕ → List ℕ → List ℕ
+laid_over ps a [] = []
+laid_over ps a (b ∷ bs) = unwrap_or (lookup ps a) b ∷ laid_over ps (suc a) bs

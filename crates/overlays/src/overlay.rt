@@ -38,25 +38,22 @@ impl<S: Space> Space for Overlay<S> {
         })
     }
 
-    // The space below fills the stretches between patches, and is not asked for a patched byte.
+    // The space below fills a stretch, and the patches are laid over it. Where it has no byte, there may be a patch.
     fn fill(&self, first: u64, out: &mut [u8]) -> (usize, Option<Fault>) {
         let room = most(first, out);
         let mut count = 0;
         while count < room {
             let at = first + count as u64;
-            match self.patches.lookup(at) {
-                Some(byte) => {
-                    out[count] = byte;
-                    count += 1;
-                }
-                None => {
-                    let end = count + self.patches.stretch(at, room - count);
-                    let (placed, fault) = fill_below(&self.below, at, &mut out[count..end]);
-                    count += placed;
-                    if count < end {
-                        return (count, fault);
-                    }
-                }
+            let (placed, fault) = fill_below(&self.below, at, &mut out[count..room]);
+            let end = count + placed;
+            self.patches.lay_over(at, &mut out[count..end]);
+            count = end;
+            if count < room {
+                let Some(byte) = self.patches.lookup(first + count as u64) else {
+                    return (count, fault);
+                };
+                out[count] = byte;
+                count += 1;
             }
         }
         (count, None)

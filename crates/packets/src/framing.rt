@@ -1,4 +1,4 @@
-ghost use Rattle.std.specs.Prelude.{◌≡◌, IfSome};
+ghost use Rattle.std.specs.Prelude.{◌≡◌, length, IfSome};
 ghost use Rattle.packets.specs.Frames.{checksum, Frames};
 ghost use Rattle.packets.specs.Streams.{HeardBack};
 
@@ -16,6 +16,20 @@ pub(crate) fn checksum(payload: &[u8]) -> u8
     payload.iter().fold(0, |sum, b| sum.wrapping_add(*b))
 }
 
+// Copies a payload, and gives its sum in the same pass.
+fn copy_summed(payload: &[u8], place: &mut [u8]) -> u8
+    requires { length place.old ≡ length payload.now }
+    ensures copied { place.new ≡ payload.now }
+    ensures sum { result ≡ checksum payload.now }
+{
+    let mut sum: u8 = 0;
+    for (n, b) in payload.iter().enumerate() {
+        place[n] = *b;
+        sum = sum.wrapping_add(*b);
+    }
+    sum
+}
+
 // Writes a payload's frame: how many bytes it has, or none where the payload is too long.
 pub fn frame(payload: &[u8], reply: &mut [u8; REPLY]) -> Option<usize>
     ensures is { Frames payload.now reply.old reply.new result }
@@ -25,9 +39,9 @@ pub fn frame(payload: &[u8], reply: &mut [u8; REPLY]) -> Option<usize>
         return None;
     }
     let end = payload.len() + 1;
-    let [high, low] = digits::of::<2>(checksum(payload) as u64);
     reply[0] = b'$';
-    reply[1..end].copy_from_slice(payload);
+    let sum = copy_summed(payload, &mut reply[1..end]);
+    let [high, low] = digits::of::<2>(sum as u64);
     reply[end..end + 3].copy_from_slice(&[b'#', high, low]);
     Some(end + 3)
 }

@@ -48,6 +48,6 @@ module _ (p : Format) (cr3 : ℕ) (below : Pile) where
   no_page a f h = let (reads, t) = h.answers.fault f refl in ((h.shows a).fault reads f t).0
 
   -- a part of the page that the space below fills
-  pub part_filled : (a : ℕ) (t : Translation) → OnPage a t → (part new : List ℕ) (r : ℕ × Option Fault) → length part ≤ t.size - a % t.size → a + length part ≤ 2 ^ 64
+  pub page_filled : (a : ℕ) (t : Translation) → OnPage a t → (part new : List ℕ) (r : ℕ × Option Fault) → length part ≤ t.size - a % t.size → a + length part ≤ 2 ^ 64
       → Fills (λ x. raised (shown below x)) t.address part new r → Fills (shown layer) a part new r
-  part_filled a t o part new r h k f = filled_alike (shown layer) (λ x. raised (shown below x)) a t.address part new r (λ i n. o.shows i (omega arith)) (let l = o.low in omega arith) f
+  page_filled a t o part new r h k f = filled_alike (shown layer) (λ x. raised (shown below x)) a t.address part new r (λ i n. o.shows i (omega arith)) (let l = o.low in omega arith) f

@@ -7,7 +7,7 @@ use images::LimeRange;
 use serving::serve;
 use std::env;
 use std::fs::File;
-use std::io::{self, Read};
+use std::io::{self, BufWriter, Read};
 
 fn main(rt: HostRuntime) -> io::Result<()> {
     let dump = front(&rt, "image.lime", DUMP)?;
@@ -15,7 +15,11 @@ fn main(rt: HostRuntime) -> io::Result<()> {
     let known_pc = env::args(&rt)?.any(|argument| argument.as_str() == "--known-pc");
     let mut memory = [LimeRange::default(); RANGES];
     match load_cart(&dump, &root, &mut memory) {
-        Ok(cart) => serve(cart, known_pc, &mut rt.stdin(), &mut rt.stdout()).1,
+        Ok(cart) => {
+            // what is due for a packet, its `+` and its reply, is written out by one call
+            let mut output = BufWriter::new(rt.alloc(), rt.stdout())?;
+            serve(cart, known_pc, &mut rt.stdin(), &mut output).1
+        }
         Err(refusal) => println!(rt; "refused {refusal}"),
     }
 }

@@ -4,7 +4,7 @@ use Rattle.spaces.specs.Patches.{Patches, Ascending, before, from, laid, replace
 
 -- what an edit leaves ascends
 
-ascending_less : (m n : ℕ) (ps : Patches) → m ≤ n → Ascending n ps → Ascending m ps
+pub ascending_less : (m n : ℕ) (ps : Patches) → m ≤ n → Ascending n ps → Ascending m ps
 ascending_less m n [] h s = refl
 ascending_less m n (p ∷ ps) h s = grind (arith, nat_tests)
 
@@ -12,7 +12,7 @@ ascending_before : (n a : ℕ) (ps rest : Patches) → n ≤ a → Ascending n p
 ascending_before n a [] rest h s t = ascending_less n a rest h t
 ascending_before n a (p ∷ ps) rest h s t = grind (arith, nat_tests, ascending_before (suc p.address) a ps rest, ascending_before n a ps rest, ascending_less n (suc p.address) ps)
 
-ascending_from : (m n a : ℕ) (ps : Patches) → m ≤ max n a → Ascending n ps → Ascending m (from a ps)
+pub ascending_from : (m n a : ℕ) (ps : Patches) → m ≤ max n a → Ascending n ps → Ascending m (from a ps)
 ascending_from m n a [] h s = refl
 ascending_from m n a (p ∷ ps) h s = grind (arith, nat_tests, ascending_from (suc p.address) (suc p.address) a ps, ascending_from m (suc p.address) a ps)
 

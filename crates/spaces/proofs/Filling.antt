@@ -1,78 +1,14 @@
-use Rattle.std.proofs.Common.{◌≡◌, ℕ, zero, suc, ◌+◌, ◌-◌, ◌^◌, ◌<◌, ◌≤◌, min, ◌⊎◌, List, [], ◌∷◌, ◌++◌, length, take, drop, set, Some, None, Ok, Err, Option, refl, sym, ap, ◌∙◌, inl, inr, arith}
+use Rattle.std.proofs.Common.{◌≡◌, ℕ, ◌+◌, ◌-◌, ◌<◌, ◌≤◌, List, [], ◌∷◌, ◌++◌, length, take, drop, set, Some, None, Ok, Err, Option, refl, sym, ap, ◌∙◌, arith}
 use Rattle.std.specs.Option.{option_map}
 use Rattle.std.proofs.lemmas.Grind.{common_steps}
-use Rattle.std.proofs.lemmas.List.{append-nil, append_assoc, length-take-le, length-drop, length-append, take-append-drop, drop_all, drop-drop, drop-append-le}
-use Rattle.std.proofs.lemmas.Slice.{take-put_mid, drop-put_mid}
+use Rattle.std.proofs.lemmas.List.{append-nil, append_assoc, length-take-le, length-drop, length-append, take-append-drop, take_at, drop_at, drop-drop, drop-append-le}
 use borrow.Rule.Slice.PartMut.{put_mid, mid_of, same_len_mid}
 use Rattle.spaces.specs.declared.fault.Fault.{Fault}
 use Rattle.spaces.specs.Maps.{Map, climbed, raised}
-use Rattle.spaces.specs.Reads.{span, Got, got, most, room, Fills}
+use Rattle.spaces.specs.Reads.{span, got, most, room, Fills}
+use Rattle.spaces.proofs.Spans.{onto, whole, span_more, span_over, got_alike, got_over, front, got_raised}
 
 -- A buffer is filled a part at a time.
-
--- bytes in front of what a read gives
-abbrev pub onto : List ℕ → Got → Got
-onto bs g = record { bytes = bs ++ g.bytes; fault = g.fault }
-
--- what two reads give, the second of which is made only where the first meets no fault
-abbrev further : Option Fault → Got → Got → Got
-further None g h = onto g.bytes h
-further (Some f) g h = g
-
-unmet : (g h : Got) → g.fault ≡ None → further g.fault g h ≡ onto g.bytes h
-unmet g h e = ap (λ o. further o g h) e
-
-met : (g h : Got) (f : Fault) → g.fault ≡ Some f → further g.fault g h ≡ g
-met g h f e = ap (λ o. further o g h) e
-
-pub span_more : (a n : ℕ) → 0 < n → span a n ≡ a ∷ span (a + 1) (n - 1)
-span_more a zero h = absurd (omega arith)
-span_more a (suc n) h = grind arith
-
-span_over : (a n k : ℕ) → span a (n + k) ≡ span a n ++ span (a + n) k
-span_over a zero k = grind arith
-span_over a (suc n) k =
-    let count : suc n + k ≡ suc (n + k) = omega arith in
-    let place : a + suc n ≡ suc a + n = omega arith in
-    rw (count, place) (ap (λ (xs : List ℕ). a ∷ xs) (span_over (suc a) n k))
-
-length_span : (a n : ℕ) → length (span a n) ≡ n
-length_span a zero = refl
-length_span a (suc n) = ap suc (length_span (suc a) n)
-
-module _ (m : Map) where
-  got_over : (xs ys : List ℕ) → got m (xs ++ ys) ≡ further (got m xs).fault (got m xs) (got m ys)
-  got_over [] ys = refl
-  got_over (a ∷ xs) ys = let ih = got_over xs ys in grind arith
-
-  -- a read is whole, or meets a fault before its end
-  ends : (xs : List ℕ) → (((got m xs).fault ≡ None) × (length (got m xs).bytes ≡ length xs)) ⊎ ((f : Fault) × ((got m xs).fault ≡ Some f) × (length (got m xs).bytes < length xs))
-  ends [] = inl (refl, refl)
-  ends (a ∷ xs) = let ih = ends xs in grind arith
-
--- Maps that are alike from two addresses on give the same from there on.
-got_alike : (m below : Map) (at place n : ℕ) → ((i : ℕ) → i < n → m (at + i) ≡ below (place + i)) → got m (span at n) ≡ got below (span place n)
-got_alike m below at place zero h = refl
-got_alike m below at place (suc n) h =
-    let ih = got_alike m below (suc at) (suc place) n (λ i k. grind (arith, h (suc i))) in
-    let e : m at ≡ below place = grind (arith, h 0) in
-    cc
-
-pub filled_alike : (m below : Map) (at place : ℕ) (part new : List ℕ) (r : ℕ × Option Fault)
-    → ((i : ℕ) → i < length part → m (at + i) ≡ below (place + i)) → most at part ≡ most place part → Fills below place part new r → Fills m at part new r
-filled_alike m below at place part new r h same f =
-    let e : got m (room at part) ≡ got below (room place part) = rw same (got_alike m below at place (most place part) (λ i k. h i (omega arith))) in
-    record { count = rw e f.count; fault = rw e f.fault; buffer = rw e f.buffer }
-
--- what a layer passes up
-module _ (m : Map) where
-  got_raised : (xs : List ℕ) → got (λ a. raised (m a)) xs ≡ record { bytes = (got m xs).bytes; fault = option_map climbed (got m xs).fault }
-  got_raised [] = refl
-  got_raised (a ∷ xs) = let ih = got_raised xs in grind arith
-
-  pub raised_fill : (first : ℕ) (before after : List ℕ) (r : ℕ × Option Fault) (o : Option Fault) → o ≡ option_map climbed r.1
-      → Fills m first before after r → Fills (λ a. raised (m a)) first before after (r.0, o)
-  raised_fill first before after r o e f = let g = got_raised (room first before) in grind arith
 
 -- a fill under way: n bytes are placed, the rest of the buffer is as it was, and what is still to be read goes behind them
 pub record Filled (m : Map) (first n : ℕ) (before now : List ℕ) : Type 0 where
@@ -81,107 +17,94 @@ pub record Filled (m : Map) (first n : ℕ) (before now : List ℕ) : Type 0 whe
   pub rest : drop n now ≡ drop n before
   pub so_far : got m (room first before) ≡ onto (take n now) (got m (span (first + n) (most first before - n)))
 
-module _ (m : Map) (first n : ℕ) (before now : List ℕ) (so : Filled m first n before now) where
-  -- no address is left
-  pub all_filled : most first before ≤ n → Fills m first before now (n, None)
-  all_filled h =
-      let none : most first before - n ≡ 0 = omega arith in
-      let whole : got m (room first before) ≡ record { bytes = take n now; fault = None } = so.so_far ∙ rw (none, append-nil) in
-      record { count = rw whole (omega (arith, length-take-le n now)); fault = rw whole; buffer = rw whole (grind (arith, so.rest, take-append-drop n now)) }
+-- what a fill placed, and why it ended
+pub record Placed (m : Map) (at : ℕ) (before after : List ℕ) (r : ℕ × Option Fault) : Type 0 where
+  pub long : length after ≡ length before
+  pub few : r.0 ≤ length before
+  pub bytes : got m (span at r.0) ≡ whole (take r.0 after)
+  pub rest : drop r.0 after ≡ drop r.0 before
+  pub ends : r.0 < most at before → (f : Fault) × (r.1 ≡ Some f) × (m (at + r.0) ≡ Err f)
 
+pub placed : (m : Map) (at : ℕ) (before after : List ℕ) (r : ℕ × Option Fault) → Fills m at before after r → Placed m at before after r
+placed m at before after r f =
+    let t = front m at (most at before) in
+    let few = t.few in
+    let count = f.count in
+    record {
+      long = ap length f.buffer ∙ grind (arith, length-append, length-drop);
+      few = omega arith;
+      bytes = rw (f.count, f.buffer, take_at (got m (room at before)).bytes _ _ refl) t.front;
+      rest = ap (drop r.0) f.buffer ∙ drop_at (got m (room at before)).bytes _ r.0 (sym f.count);
+      ends = λ h. let e = t.ends (omega arith) in (e.0, f.fault ∙ e.1, ap (λ (n : ℕ). m (at + n)) f.count ∙ e.2);
+    }
+
+-- behind what was placed in a part, the buffer is as it was
+pub behind : (m : Map) (at n k : ℕ) (now part : List ℕ) (r : ℕ × Option Fault) → Placed m at (mid_of n k now) part r → n ≤ length now → drop (n + r.0) (put_mid n k now part) ≡ drop (n + r.0) now
+behind m at n k now part r p h =
+    let few = p.few in
+    let long = p.long in
+    let left : drop r.0 part ++ drop k (drop n now) ≡ drop r.0 (drop n now) =
+    rw p.rest (sym (drop-append-le r.0 (mid_of n k now) (drop k (drop n now)) p.few) ∙ ap (drop r.0) (take-append-drop k (drop n now))) in
+    sym (drop-drop r.0 n (put_mid n k now part)) ∙ ap (drop r.0) (drop_at (take n now) _ n (length-take-le n now h))
+    ∙ drop-append-le r.0 part (drop k (drop n now)) (omega arith) ∙ left ∙ drop-drop r.0 n now
+
+module _ (m : Map) (first n : ℕ) (before now : List ℕ) (so : Filled m first n before now) where
   -- the next address has a fault
   pub stopped : (f : Fault) → n < most first before → m (first + n) ≡ Err f → Fills m first before now (n, Some f)
   stopped f h e =
-      let whole : got m (room first before) ≡ record { bytes = take n now; fault = Some f } = so.so_far ∙ rw (span_more (first + n) (most first before - n) (omega arith), e, append-nil) in
-      record { count = rw whole (omega (arith, length-take-le n now)); fault = rw whole; buffer = rw whole (grind (arith, so.rest, take-append-drop n now)) }
+      let all : got m (room first before) ≡ record { bytes = take n now; fault = Some f } = so.so_far ∙ rw (span_more (first + n) (most first before - n) (omega arith), e, append-nil) in
+      record { count = rw all (omega (arith, length-take-le n now)); fault = rw all; buffer = rw all (grind (arith, so.rest, take-append-drop n now)) }
+
+  -- so many addresses more have bytes, which are placed
+  pub more : (k : ℕ) (bs then : List ℕ) → n + k ≤ most first before → got m (span (first + n) k) ≡ whole bs
+      → length then ≡ length now → take (n + k) then ≡ take n now ++ bs → drop (n + k) then ≡ drop (n + k) now → Filled m first (n + k) before then
+  more k bs then h e l front rest =
+      let count : most first before - n ≡ k + (most first before - (n + k)) = omega arith in
+      let place : first + n + k ≡ first + (n + k) = omega arith in
+      let behind : got m (span (first + n) (most first before - n)) ≡ onto bs (got m (span (first + (n + k)) (most first before - (n + k)))) =
+      ap (λ (x : ℕ). got m (span (first + n) x)) count ∙ ap (got m) (span_over (first + n) k _) ∙ got_over m (span (first + n) k) _ bs e ∙ ap (λ (x : ℕ). onto bs (got m (span x (most first before - (n + k))))) place in
+      record {
+        long = l ∙ so.long;
+        within = h;
+        rest = rest ∙ sym (drop-drop k n now) ∙ ap (drop k) so.rest ∙ drop-drop k n before;
+        so_far = rw front (so.so_far ∙ ap (onto (take n now)) behind ∙ grind (arith, append_assoc));
+      }
 
   -- the next address has a byte
-  pub placed : (b : ℕ) → n < most first before → m (first + n) ≡ Ok b → Filled m first (n + 1) before (set now n b)
-  placed b h e = record {
-    long = grind (arith, common_steps, so.long);
-    within = omega arith;
-    rest = grind (arith, common_steps, so.long, so.rest);
-    so_far = so.so_far ∙ grind (arith, common_steps, so.long, span_more (first + n) (most first before - n));
-  }
+  pub one_more : (b : ℕ) → n < most first before → m (first + n) ≡ Ok b → Filled m first (n + 1) before (set now n b)
+  one_more b h e = let l = so.long in more 1 (b ∷ []) (set now n b) (omega arith) (grind arith) (grind (arith, common_steps)) (grind (arith, common_steps)) (grind (arith, common_steps))
 
-  -- A part of k bytes is filled next.
-  module _ (k at : ℕ) (part : List ℕ) (r : ℕ × Option Fault) (fits : n + k ≤ length before) (place : at ≡ first + n) (f : Fills m at (mid_of n k now) part r) where
-    -- how many addresses it has, and what they give
-    abbrev many : ℕ
-    many = min k (2 ^ 64 - at)
+  pub part_long : (k : ℕ) → n + k ≤ most first before → length (mid_of n k now) ≡ k
+  part_long k h = length-take-le k (drop n now) (let l = so.long in rw (length-drop n now) (omega arith))
 
-    abbrev piece : Got
-    piece = got m (span at many)
+-- A part of k bytes is filled next.
+module _ (m : Map) (first n k : ℕ) (before now part : List ℕ) (r : ℕ × Option Fault) (so : Filled m first n before now) (fits : n + k ≤ most first before)
+    (f : Fills m (first + n) (mid_of n k now) part r) where
+  p : Placed m (first + n) (mid_of n k now) part r
+  p = placed m (first + n) (mid_of n k now) part r f
 
-    lent : length (mid_of n k now) ≡ k
-    lent = length-take-le k (drop n now) (let l = so.long in rw (length-drop n now) (omega arith))
+  pub part_filled : Filled m first (n + r.0) before (put_mid n k now part)
+  part_filled =
+      let l = part_long m first n before now so k fits in
+      let few = p.few in
+      let long = p.long in
+      let same = so.long in
+      more m first n before now so r.0 (take r.0 part) (put_mid n k now part) (omega arith) p.bytes (same_len_mid n k now part p.long) (grind (arith, common_steps)) (behind m (first + n) n k now part r p (omega arith))
 
-    same_room : room at (mid_of n k now) ≡ span at many
-    same_room = ap (λ (l : ℕ). span at (min l (2 ^ 64 - at))) lent
+  pub part_stopped : r.0 < k → Fills m first before (put_mid n k now part) (n + r.0, r.1)
+  part_stopped h =
+      let l = part_long m first n before now so k fits in
+      let e = p.ends (omega arith) in
+      rw (e.1) (stopped m first (n + r.0) before (put_mid n k now part) part_filled (e.0) (omega arith) (grind (arith, e.2)))
 
-    count : r.0 ≡ length piece.bytes
-    count = f.count ∙ ap (λ (xs : List ℕ). length (got m xs).bytes) same_room
+-- a fill of a map is one of any map that is alike from there on
+pub filled_alike : (m n : Map) (a b : ℕ) (before after : List ℕ) (r : ℕ × Option Fault)
+    → ((i : ℕ) → i < length before → m (a + i) ≡ n (b + i)) → most a before ≡ most b before → Fills n b before after r → Fills m a before after r
+filled_alike m n a b before after r h same f =
+    let e : got m (room a before) ≡ got n (room b before) = rw same (got_alike m n a b (most b before) (λ i k. h i (omega arith))) in
+    record { count = rw e f.count; fault = rw e f.fault; buffer = rw e f.buffer }
 
-    bytes : part ≡ piece.bytes ++ drop r.0 (mid_of n k now)
-    bytes = f.buffer ∙ ap (λ (xs : List ℕ). (got m xs).bytes ++ drop r.0 (mid_of n k now)) same_room
-
-    few : r.0 ≤ k
-    few = let c = count in elim (ends m (span at many)) [ inl w ↦ omega (arith, w.1, length_span at many) | inr w ↦ omega (arith, w.2, length_span at many) ]
-
-    returned : length part ≡ k
-    returned = let c = count in let l = lent in let h = few in ap length bytes ∙ grind (arith, length-append, length-drop)
-
-    -- what is still to be read: the part, and what is behind it
-    split : got m (span (first + n) (most first before - n)) ≡ further piece.fault piece (got m (span (first + (n + many)) (most first before - (n + many))))
-    split =
-        let w = so.within in
-        let e : most first before - n ≡ many + (most first before - (n + many)) = omega arith in
-        let a : first + (n + many) ≡ at + many = omega arith in
-        rw (a, ← place) (ap (λ (x : ℕ). got m (span at x)) e ∙ ap (got m) (span_over at many (most first before - (n + many))) ∙ got_over m (span at many) (span (at + many) (most first before - (n + many))))
-
-    -- it is filled whole
-    pub filled_on : k ≤ r.0 → Filled m first (n + r.0) before (put_mid n k now part)
-    filled_on h =
-        let c = count in
-        let l = so.long in
-        elim (ends m (span at many)) [
-          | inl w ↦
-              let s = length_span at many in
-              let all : r.0 ≡ many = omega (arith, w.1) in
-              let rest = drop_all r.0 (mid_of n k now) (let l = lent in omega arith) in
-              let whole : part ≡ piece.bytes = bytes ∙ rw (rest, append-nil) in
-              record {
-                long = same_len_mid n k now part (returned ∙ sym lent) ∙ so.long;
-                within = omega arith;
-                rest = drop-put_mid n k now part (n + r.0) (omega arith) (omega arith) returned ∙ sym (drop-drop r.0 n now) ∙ ap (drop r.0) so.rest ∙ drop-drop r.0 n before;
-                so_far = rw (take-put_mid n k now part (n + r.0) (omega (arith, returned)) (omega arith), whole, all) (so.so_far ∙ ap (onto (take n now)) (split ∙ unmet piece _ w.0) ∙ grind (arith, append_assoc));
-              }
-          | inr w ↦ absurd (omega (arith, w.2, length_span at many))
-        ]
-
-    -- of the part from the count on, and behind it, the buffer is as it was
-    left : drop r.0 (mid_of n k now) ++ drop k (drop n now) ≡ drop (n + r.0) before
-    left = sym (drop-append-le r.0 (mid_of n k now) (drop k (drop n now)) (let l = lent in let h = few in omega arith))
-        ∙ ap (drop r.0) (take-append-drop k (drop n now) ∙ so.rest) ∙ drop-drop r.0 n before
-
-    -- it is not
-    pub filled_to : r.0 < k → Fills m first before (put_mid n k now part) (n + r.0, r.1)
-    filled_to h = record {
-      count = rw whole (omega (arith, length-append {A = ℕ}, length-take-le n now, count));
-      fault = rw whole (f.fault ∙ ap (λ (xs : List ℕ). (got m xs).fault) same_room);
-      buffer = rw whole buffer;
-    }
-      where
-        whole : got m (room first before) ≡ onto (take n now) piece
-        whole = so.so_far ∙ ap (onto (take n now)) (elim (ends m (span at many)) [
-          | inl w ↦
-              let c = count in
-              let l = so.within in
-              let s = length_span at many in
-              let end : most first before - (n + many) ≡ 0 = omega (arith, w.1) in
-              split ∙ unmet piece _ w.0 ∙ rw (end, append-nil) (ap (λ (o : Option Fault). record { bytes = piece.bytes; fault = o }) (sym w.0))
-          | inr w ↦ split ∙ met piece _ w.0 w.1
-        ])
-
-        buffer : put_mid n k now part ≡ (take n now ++ piece.bytes) ++ drop (n + r.0) before
-        buffer = rw bytes (grind (arith, append_assoc, left))
+-- what a layer passes up
+pub filled_raised : (m : Map) (first : ℕ) (before after : List ℕ) (r : ℕ × Option Fault) (o : Option Fault) → o ≡ option_map climbed r.1
+    → Fills m first before after r → Fills (λ a. raised (m a)) first before after (r.0, o)
+filled_raised m first before after r o e f = let g = got_raised m (room first before) in grind arith

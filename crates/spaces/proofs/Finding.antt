@@ -14,7 +14,7 @@ lookup_append [] qs a = refl
 lookup_append (p ∷ ps) qs a = grind (arith, lookup_append ps qs a)
 
 -- a filter by address keeps what is found at the addresses that pass
-lookup_kept : (t : ℕ → Bool) (ps : Patches) (a : ℕ) → lookup (filter (λ p. t p.address) ps) a ≡ cond (t a) (lookup ps a) None
+pub lookup_kept : (t : ℕ → Bool) (ps : Patches) (a : ℕ) → lookup (filter (λ p. t p.address) ps) a ≡ cond (t a) (lookup ps a) None
 lookup_kept t [] a = grind arith
 lookup_kept t (p ∷ ps) a = grind (arith, nat_tests, lookup_kept t ps a)
 

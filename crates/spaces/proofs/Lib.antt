@@ -1,6 +1,7 @@
 pub mod Lawful
 pub mod Laying
 pub mod Walking
+pub mod Spans
 pub mod Filling
 pub mod Ascents
 pub mod Finding

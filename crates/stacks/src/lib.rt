@@ -10,4 +10,6 @@ mod limits;
 #[cfg(test)]
 mod stacked;
 #[cfg(test)]
+mod stretches;
+#[cfg(test)]
 mod windows;

@@ -7,6 +7,8 @@ mod boards;
 #[cfg(test)]
 mod bytes;
 #[cfg(test)]
+mod crossings;
+#[cfg(test)]
 mod edits;
 #[cfg(test)]
 mod four_level;

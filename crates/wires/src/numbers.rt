@@ -1,4 +1,5 @@
 use packets::digits::{byte, bytes, number, of, spell};
+use std::test::Fail;
 
 const LAST: u64 = u64::MAX;
 
@@ -89,6 +90,26 @@ fn bytes_are_spelled(rt: HostRuntime) {
         let length = spell(text, &mut out[..room.min(8)]);
         assert_eq!(rt; (length, out), (count, *expected), "room {room}");
     }
+}
+
+// All bytes in their order are each digit before each digit, in theirs.
+#[test]
+fn every_byte_is_spelled(rt: HostRuntime) -> Result<(), Fail> {
+    let mut every = Vec::new(rt.alloc());
+    for b in 0..=255 {
+        every.push(b)?;
+    }
+    let mut expected = Vec::new(rt.alloc());
+    for high in b"0123456789abcdef" {
+        for low in b"0123456789abcdef" {
+            expected.push(*high)?;
+            expected.push(*low)?;
+        }
+    }
+    let mut out = [b'.'; 512];
+    let count = spell(&every, &mut out);
+    assert_eq!(rt; (count, out.as_slice()), (512, expected.as_slice()));
+    Ok(())
 }
 
 // Each with its room, the number that is answered and the buffer.

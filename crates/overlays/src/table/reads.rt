@@ -1,6 +1,6 @@
-ghost use Rattle.std.specs.Prelude.{◌≡◌, ◌≤◌, [], length, slice_get};
+ghost use Rattle.std.specs.Prelude.{◌≡◌, ◌≤◌, [], length};
 ghost use Rattle.spaces.specs.Patches.{lookup, before, from};
-ghost use Rattle.overlays.specs.Tables.{held, Stretch};
+ghost use Rattle.overlays.specs.Tables.{held, laid_over};
 
 use crate::table::PatchTable;
 use arrayvec::ArrayVec;
@@ -27,26 +27,23 @@ impl PatchTable {
     pub fn lookup(&self, at: u64) -> Option<u8>
         ensures { result ≡ lookup (held self.now) at }
     {
-        let patch = self.next(at)?;
+        let (_, from) = self.parted(at as u128);
+        let patch = from.first()?;
         (patch.address == at).then_some(patch.byte)
     }
 
-    // How many of so many addresses from one on come before the next patch.
-    pub(crate) fn stretch(&self, at: u64, room: usize) -> usize
-        ensures { Stretch (held self.now) at room result }
+    // Lays the patches over the bytes of consecutive addresses.
+    pub(crate) fn lay_over(&self, first: u64, bytes: &mut [u8])
+        ensures { bytes.new ≡ laid_over (held self.now) first bytes.old }
     {
-        match self.next(at) {
-            Some(patch) => room.min((patch.address - at) as usize),
-            None => room,
+        let (_, from) = self.parted(first as u128);
+        for patch in from {
+            let place = (patch.address - first) as usize;
+            if place >= bytes.len() {
+                return;
+            }
+            bytes[place] = patch.byte;
         }
-    }
-
-    // The first patch from an address on.
-    fn next(&self, at: u64) -> Option<Patch>
-        ensures { result ≡ slice_get (from at (held self.now)) 0 }
-    {
-        let (_, from) = self.parted(at as u128);
-        from.first().copied()
     }
 
     // The patches before an address, and those from it on.

@@ -5,5 +5,5 @@ use Rattle.packets.proofs.framing.frame.Goals as goal
 
 pub returns : goal.returns
 returns c =
-    let f = frames c.args.payload.now c.args.reply.now (search rules) (omega arith) c.copy_from_slice.new.self c.copy_from_slice-2.new.self (search rules) (search rules) in
+    let f = frames c.args.payload.now c.args.reply.now (search rules) (omega arith) c.copy_summed-sum.new.place c.copy_from_slice.new.self (search rules) (search rules) in
     record { is = f; heard_back = front_heard c.args.payload.now c.args.reply.now _ (length c.args.payload.now + 1 + 3) f }

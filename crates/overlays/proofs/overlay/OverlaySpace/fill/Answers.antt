@@ -1,20 +1,22 @@
-use Rattle.std.proofs.Common.{◌+◌, refl, arith}
-use Rattle.spaces.proofs.Filling.{placed, filled_on, filled_to}
+use Rattle.std.proofs.Common.{◌+◌, arith}
+use Rattle.spaces.proofs.Filling.{one_more}
 use Rattle.overlays.specs.Tables.{held}
-use Rattle.overlays.proofs.Stretches.{shows_patch, stretch_filled}
+use Rattle.overlays.proofs.Stretches.{shows_patch, stretch_filled, stretch_stopped}
 use Rattle.overlays.proofs.overlay.OverlaySpace.fill.Goals as goal
 
-pub loop-count-preserved-in-Some : goal.loop-count-preserved-in-Some
-loop-count-preserved-in-Some g c =
-    let s = c.args.self.now in
-    placed _ _ _ _ _ c.loop-count.invariant _ (omega arith) (shows_patch (held s.patches) (g.S.Space.meaning s.below) (c.args.first + c.loop-count.count) _ c.in-Some.ensures)
+pub returns-in_default : goal.returns-in_default
+returns-in_default g c =
+    let below = g.S.Space.meaning c.args.self.now.below in
+    stretch_stopped _ below _ _ _ _ _ _ _ _ _ c.loop-count.invariant (omega arith) c.fill_below-placed.ensures (omega arith) c.lay_over.ensures (omega arith) c.in_default.ensures
 
-pub returns-then-count-end : goal.returns-then-count-end
-returns-then-count-end g c =
-    let filled = stretch_filled _ (g.S.Space.meaning c.args.self.now.below) _ _ _ c.stretch.ensures _ _ _ (omega arith) c.fill_below-placed.ensures in
-    filled_to _ _ _ _ _ c.loop-count.invariant _ _ _ _ (omega arith) refl filled (omega arith)
+pub loop-count-preserved-then-count-room : goal.loop-count-preserved-then-count-room
+loop-count-preserved-then-count-room g c =
+    let ps = held c.args.self.now.patches in
+    let below = g.S.Space.meaning c.args.self.now.below in
+    let filled = stretch_filled ps below _ _ _ _ _ _ _ _ _ c.loop-count.invariant (omega arith) c.fill_below-placed.ensures (omega arith) c.lay_over.ensures in
+    one_more _ _ _ _ _ filled _ (omega arith) (shows_patch ps below (c.args.first + (c.loop-count.count + c.fill_below-placed.result.0)) _ c.in-Some.ensures)
 
 pub loop-count-preserved : goal.loop-count-preserved
 loop-count-preserved g c =
-    let filled = stretch_filled _ (g.S.Space.meaning c.args.self.now.below) _ _ _ c.stretch.ensures _ _ _ (omega arith) c.fill_below-placed.ensures in
-    filled_on _ _ _ _ _ c.loop-count.invariant _ _ _ _ (omega arith) refl filled (omega arith)
+    let below = g.S.Space.meaning c.args.self.now.below in
+    stretch_filled _ below _ _ _ _ _ _ _ _ _ c.loop-count.invariant (omega arith) c.fill_below-placed.ensures (omega arith) c.lay_over.ensures
