@@ -36,6 +36,19 @@ mod raw {
             into_len: usize,
             told: *mut Told,
         );
+        pub fn aisle_read_bytewise(
+            dump: *const u8,
+            dump_len: usize,
+            root: *const u8,
+            root_len: usize,
+            file: *const u8,
+            file_len: usize,
+            first: u64,
+            piece: usize,
+            into: *mut u8,
+            into_len: usize,
+            told: *mut Told,
+        );
     }
 }
 
@@ -77,11 +90,35 @@ pub fn serve_day(day: &Day, sent: &mut [u8]) -> Told {
     told
 }
 
+/// By the fills of the cart's layers.
 pub fn read_patched(read: &Read, into: &mut [u8]) -> Told {
+    call(raw::aisle_read, read, into)
+}
+
+/// By the body that every space's fill has to begin with: byte by byte.
+pub fn read_bytewise(read: &Read, into: &mut [u8]) -> Told {
+    call(raw::aisle_read_bytewise, read, into)
+}
+
+type ReadCall = unsafe extern "C" fn(
+    dump: *const u8,
+    dump_len: usize,
+    root: *const u8,
+    root_len: usize,
+    file: *const u8,
+    file_len: usize,
+    first: u64,
+    piece: usize,
+    into: *mut u8,
+    into_len: usize,
+    told: *mut Told,
+);
+
+fn call(function: ReadCall, read: &Read, into: &mut [u8]) -> Told {
     let mut told = UNTOLD;
     // SAFETY: each pointer and length are a slice's; `into` and `told` are borrowed by this call alone.
     unsafe {
-        raw::aisle_read(
+        function(
             read.dump.as_ptr(),
             read.dump.len(),
             read.root.as_ptr(),

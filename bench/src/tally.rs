@@ -136,8 +136,8 @@ impl Tally {
         if !self.mine() {
             return;
         }
-        let mut buffers = [const { Vec::new() }; 3];
-        let [bytes, pages, proved] = buffers.each_mut().map(|buffer| {
+        let mut buffers = [const { Vec::new() }; 4];
+        let [bytes, pages, proved, bytewise] = buffers.each_mut().map(|buffer| {
             buffer.resize(length, UNTOUCHED);
             buffer
         });
@@ -145,13 +145,18 @@ impl Tally {
             read_patched(read, Pace::Byte, bytes),
             read_patched(read, Pace::Page, pages),
             aisle::read_patched(read, proved),
+            aisle::read_bytewise(read, bytewise),
         ];
-        let same = tolds.iter().all(|told| *told == tolds[0]) && bytes == pages && bytes == proved;
+        let same = tolds == [tolds[0]; 4] && [&pages, &proved, &bytewise] == [&bytes; 3];
         self.count(same, || {
-            let names = ["plain", "plain by pages", "proved"];
+            let names = ["plain", "plain by pages", "proved", "proved byte by byte"];
             let mut text = format!("read: {:#x} in {}, ", read.first, read.piece);
             text += &Inputs(read.dump, read.root, read.file).text();
-            for ((name, told), buffer) in names.iter().zip(tolds).zip([bytes, pages, proved]) {
+            for ((name, told), buffer) in names
+                .iter()
+                .zip(tolds)
+                .zip([bytes, pages, proved, bytewise])
+            {
                 text += &side(name, told, buffer);
             }
             text

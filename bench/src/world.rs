@@ -4,14 +4,18 @@
 use crate::random::Random;
 use crate::samples::{range, record};
 
-const PAGE: usize = 4096;
-/// Pages that lie one behind the other in a run of virtual addresses.
-const RUN: usize = 8;
-/// The bytes of a run.
-pub const RUN_BYTES: usize = RUN * PAGE;
+pub const PAGE: usize = 4096;
 /// Where the memory of the tables and pages begins.
 const BASE: u64 = 0x10_0000;
 const PRESENT: u64 = 3;
+
+#[derive(Clone, Copy)]
+pub struct Size {
+    pub pages: usize,
+    /// Pages that lie one behind the other in a run of virtual addresses.
+    pub run: usize,
+    pub ranges: usize,
+}
 
 pub struct World {
     pub dump: Vec<u8>,
@@ -21,17 +25,17 @@ pub struct World {
 }
 
 impl World {
-    pub fn new(pages: usize, ranges: usize) -> World {
+    pub fn new(size: Size) -> World {
         let mut random = Random::new(0xA151E);
-        let virtuals = scattered(pages, &mut random);
-        let mut memory = Memory::new(pages, &mut random);
+        let virtuals = scattered(size, &mut random);
+        let mut memory = Memory::new(size, &mut random);
         let root = memory.frame();
         let frames = virtuals
             .iter()
             .map(|at| memory.map(root, *at, &mut random))
             .collect();
         World {
-            dump: memory.dump(ranges, &mut random),
+            dump: memory.dump(size.ranges, &mut random),
             root: root.to_le_bytes(),
             virtuals,
             frames,
@@ -43,28 +47,44 @@ impl World {
         self.virtuals[number]
     }
 
-    /// A patch file with so many patches in each overlay, none of them in a table.
+    /// A patch file with so many patches in each overlay, spread over all pages, none of them in a table.
     pub fn patches(&self, count: usize) -> Vec<u8> {
         let mut random = Random::new(count as u64);
         let mut file = Vec::new();
         for number in 0..count {
             let page = number % self.virtuals.len();
-            let offset = (number / self.virtuals.len() * 8 + random.below(8)) as u64;
-            file.extend(record(self.virtuals[page] + offset, 0, Some(number as u8)));
-            file.extend(record(
-                self.frames[page] + 2048 + offset,
-                2,
-                Some(number as u8),
-            ));
+            let offset = number / self.virtuals.len() * 8 + random.below(8);
+            self.patch(&mut file, page, [offset, 2048 + offset], number as u8);
         }
         file
+    }
+
+    /// A patch file that patches every 16th byte of a page in each overlay, in the lower one 8 bytes further on.
+    pub fn dense_patches(&self, page: usize) -> Vec<u8> {
+        let mut file = Vec::new();
+        for number in 0..PAGE / 16 {
+            self.patch(
+                &mut file,
+                page,
+                [16 * number, 16 * number + 8],
+                number as u8,
+            );
+        }
+        file
+    }
+
+    /// Adds a patch in each overlay, at offsets of a page and of its frame.
+    fn patch(&self, file: &mut Vec<u8>, page: usize, offsets: [usize; 2], value: u8) {
+        let [upper, lower] = offsets.map(|offset| offset as u64);
+        file.extend(record(self.virtuals[page] + upper, 0, Some(value)));
+        file.extend(record(self.frames[page] + lower, 2, Some(value)));
     }
 }
 
 /// The virtual addresses of pages, in runs.
-fn scattered(pages: usize, random: &mut Random) -> Vec<u64> {
+fn scattered(size: Size, random: &mut Random) -> Vec<u64> {
     let mut virtuals = Vec::new();
-    while virtuals.len() < pages {
+    while virtuals.len() < size.pages {
         // all of a run's pages are in one table of level 1
         let run = (random.number() % (1 << 26)) << 21;
         let start = if run >> 46 & 1 == 1 {
@@ -74,7 +94,7 @@ fn scattered(pages: usize, random: &mut Random) -> Vec<u64> {
         };
         let taken = |at: &u64| *at >> 21 == start >> 21;
         if !virtuals.iter().any(taken) {
-            let left = RUN.min(pages - virtuals.len());
+            let left = size.run.min(size.pages - virtuals.len());
             virtuals.extend((0..left).map(|page| start + (page * PAGE) as u64));
         }
     }
@@ -88,9 +108,9 @@ struct Memory {
 }
 
 impl Memory {
-    fn new(pages: usize, random: &mut Random) -> Memory {
+    fn new(size: Size, random: &mut Random) -> Memory {
         // each run of pages takes a table at each of three levels at the most, and there is the root
-        let frames = pages + 3 * pages.div_ceil(RUN) + 1;
+        let frames = size.pages + 3 * size.pages.div_ceil(size.run) + 1;
         let mut free: Vec<u64> = (0..frames)
             .map(|frame| BASE + (frame * PAGE) as u64)
             .collect();

@@ -1,5 +1,6 @@
 //! Compares the proved libraries and the independent implementation on damaged inputs.
 
+mod backwards;
 mod files;
 mod loads;
 mod mixtures;
@@ -29,6 +30,7 @@ fn run(mut tally: Tally) -> Tally {
     streams::compare(&mut tally);
     files::compare(&mut tally);
     reads::compare(&mut tally);
+    backwards::compare(&mut tally);
     mixtures::compare(&mut tally);
     tally
 }

@@ -3,7 +3,7 @@
 use bench::cart::Read;
 use bench::samples::{SAMPLE_DUMP, SAMPLE_ROOT, file, wide_dump};
 use bench::tally::Tally;
-use bench::world::World;
+use bench::world::{Size, World};
 
 const PIECES: [usize; 6] = [0, 1, 7, 64, 2048, usize::MAX];
 const LENGTHS: [usize; 4] = [0, 1, 40, 70];
@@ -63,19 +63,24 @@ pub fn compare(tally: &mut Tally) {
     large(tally);
 }
 
-/// Reads across many pages of a dump of 64 ranges, with no patches and with 256 in each overlay.
+/// Reads across many pages of a dump of 64 ranges, with no patches, with some in each page, and with many in one.
 fn large(tally: &mut Tally) {
     tally.kind("reads of thousands of bytes across shuffled pages and 64 ranges");
     for (pages, ranges) in [(16, 64), (64, 64), (16, 8), (16, 1)] {
-        let world = World::new(pages, ranges);
-        for patches in [0, 16, 256] {
-            let file = world.patches(patches);
+        let world = World::new(Size {
+            pages,
+            run: 8,
+            ranges,
+        });
+        let spread = [0, 16, 256].map(|count| world.patches(count));
+        let dense = [0, pages - 1].map(|page| world.dense_patches(page));
+        for file in spread.iter().chain(&dense) {
             for page in 0..pages {
                 for (piece, skip) in [(1, 0xfc0), (7, 0xff9), (2048, 0), (2048, 0x923)] {
                     let read = Read {
                         dump: &world.dump,
                         root: &world.root,
-                        file: &file,
+                        file,
                         first: world.page(page) + skip,
                         piece,
                     };

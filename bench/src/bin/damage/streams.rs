@@ -6,7 +6,7 @@ use bench::packets::frame;
 use bench::samples::{SAMPLE_DUMP, SAMPLE_ROOT, after, file, packets, talk, wide_dump};
 use bench::space::Pace;
 use bench::tally::Tally;
-use bench::world::World;
+use bench::world::{Size, World};
 
 pub fn compare(tally: &mut Tally) {
     let (dump, talk, file, after) = (wide_dump(), talk(), file(), after());
@@ -169,7 +169,11 @@ fn little_room(tally: &mut Tally, day: &Day) {
 /// Reads of about 2,048 addresses and of far more, that meet no fault before.
 fn long_reads(tally: &mut Tally) {
     tally.kind("reads of about 2,048 addresses and more by packets");
-    let world = World::new(8, 1);
+    let world = World::new(Size {
+        pages: 8,
+        run: 8,
+        ranges: 1,
+    });
     let counts = (2040..2056).chain([4096, 0x7000, 1 << 32, u64::MAX >> 1]);
     for count in counts {
         for skip in [0, 0x7ff, 0x7801, 0x8000 - 2048, 0x8000 - 2047] {

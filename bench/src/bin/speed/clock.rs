@@ -4,22 +4,24 @@ use std::time::{Duration, Instant};
 
 const ROUNDS: usize = 7;
 /// A contender runs in each round for at least so long, and at least once.
-const TURN: Duration = Duration::from_millis(120);
+const TURN: Duration = Duration::from_millis(60);
 
-/// Seconds that one call takes, by contender and round.
-pub struct Times(Vec<Vec<f64>>);
+pub type Contender<'a> = Box<dyn FnMut() + 'a>;
 
-pub fn race(contenders: &mut [&mut dyn FnMut()]) -> Times {
-    let mut times = vec![Vec::new(); contenders.len()];
+/// Seconds that one call of a contender takes, by round.
+pub struct Laps(Vec<f64>);
+
+pub fn race(mut contenders: Vec<Contender>) -> Vec<Laps> {
+    let mut laps: Vec<_> = contenders.iter().map(|_| Laps(Vec::new())).collect();
     for _ in 0..ROUNDS {
-        for (contender, times) in contenders.iter_mut().zip(&mut times) {
-            times.push(turn(contender));
+        for (contender, laps) in contenders.iter_mut().zip(&mut laps) {
+            laps.0.push(turn(contender));
         }
     }
-    Times(times)
+    laps
 }
 
-fn turn(contender: &mut dyn FnMut()) -> f64 {
+fn turn(contender: &mut Contender) -> f64 {
     let start = Instant::now();
     let mut calls = 0;
     while start.elapsed() < TURN || calls == 0 {
@@ -29,12 +31,20 @@ fn turn(contender: &mut dyn FnMut()) -> f64 {
     start.elapsed().as_secs_f64() / f64::from(calls)
 }
 
-impl Times {
+impl Laps {
+    /// What is left of each without what another contender took in the same round.
+    pub fn less(&self, other: &Laps) -> Laps {
+        Laps(self.pairs(other).map(|(own, other)| own - other).collect())
+    }
+
     /// How many times as long one contender takes as another: the median of the rounds.
-    pub fn ratio(&self, one: usize, other: usize) -> f64 {
-        let pairs = self.0[one].iter().zip(&self.0[other]);
-        let mut ratios: Vec<f64> = pairs.map(|(one, other)| one / other).collect();
+    pub fn by(&self, other: &Laps) -> f64 {
+        let mut ratios: Vec<f64> = self.pairs(other).map(|(own, other)| own / other).collect();
         ratios.sort_by(f64::total_cmp);
         ratios[ratios.len() / 2]
+    }
+
+    fn pairs(&self, other: &Laps) -> impl Iterator<Item = (f64, f64)> {
+        self.0.iter().copied().zip(other.0.iter().copied())
     }
 }

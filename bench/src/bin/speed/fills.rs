@@ -1,170 +1,298 @@
 //! Loads, and fills through overlay, four-level paging, overlay and image.
 
-use crate::clock::{Times, race};
+use crate::clock::{Contender, Laps, race};
 use bench::aisle;
-use bench::cart::{Read, cart, fill_in_pieces, load_dump};
+use bench::cart::{Cart, Read, Told, cart, fill_in_pieces, load_dump};
 use bench::patchfile;
 use bench::space::Pace;
-use bench::world::{RUN_BYTES, World};
+use bench::world::{PAGE, Size, World};
 use std::hint::black_box;
 
-const PROVED: usize = 0;
-const BYTES: usize = 1;
-const PAGES: usize = 2;
+/// 1 MiB, in runs of pages that follow one another. Each run is read by one call.
+const PAGES: usize = 256;
+const RUN: usize = 32;
+
+#[derive(Clone, Copy)]
+struct Setting {
+    name: &'static str,
+    ranges: usize,
+    patches: Patches,
+    piece: usize,
+    /// How many of the pages are read.
+    pages: usize,
+}
+
+#[derive(Clone, Copy)]
+enum Patches {
+    /// So many in each overlay, spread over all pages.
+    Spread(usize),
+    /// Every 16th byte of the first page in each overlay.
+    Dense,
+}
+
+const LEAST: Setting = Setting {
+    name: "1 MiB, 1 range, no patches, reads of 2,048 bytes",
+    ranges: 1,
+    patches: Patches::Spread(0),
+    piece: 2048,
+    pages: PAGES,
+};
+const RANGES: Setting = Setting {
+    name: "64 ranges",
+    ranges: 64,
+    ..LEAST
+};
+const PATCHES: Setting = Setting {
+    name: "256 patches in each overlay",
+    patches: Patches::Spread(256),
+    ..LEAST
+};
+const PAGE_ALONE: Setting = Setting {
+    name: "64 ranges, one page",
+    pages: 1,
+    ..RANGES
+};
+
+const SETTINGS: [Setting; 10] = [
+    // these differ from the first in one thing each
+    LEAST,
+    Setting {
+        name: "8 ranges",
+        ranges: 8,
+        ..LEAST
+    },
+    RANGES,
+    Setting {
+        name: "16 patches in each overlay",
+        patches: Patches::Spread(16),
+        ..LEAST
+    },
+    PATCHES,
+    Setting {
+        name: "reads of 256 bytes",
+        piece: 256,
+        ..LEAST
+    },
+    Setting {
+        name: "reads of 16 bytes",
+        piece: 16,
+        ..LEAST
+    },
+    // and these are patches among many ranges
+    Setting {
+        name: "64 ranges, 256 patches in each overlay",
+        ranges: 64,
+        ..PATCHES
+    },
+    PAGE_ALONE,
+    Setting {
+        name: "64 ranges, one page, each 16th byte patched in each overlay",
+        patches: Patches::Dense,
+        ..PAGE_ALONE
+    },
+];
 
 pub fn compare() {
-    let mib = Setting {
-        pages: 256,
-        ranges: 64,
-        patches: 0,
-        piece: 2048,
-    };
-    println!("fill of 1 MiB in reads of 2,048 bytes, 64 ranges, no patches:");
-    let times = mib.race();
-    say("plain, byte at a time", times.ratio(PROVED, BYTES));
-    say("plain, page at a time", times.ratio(PROVED, PAGES));
-    grow();
-    load();
+    compare_loads();
+    compare_fills();
 }
 
 pub fn say(other: &str, ratio: f64) {
     println!("  proved takes {ratio:.2} times as long as {other}");
 }
 
-fn load() {
-    println!("loading a dump of 64 ranges:");
-    let world = World::new(256, 64);
-    let times = race(&mut [
-        &mut || {
-            black_box(aisle::load_dump(black_box(&world.dump), 64));
-        },
-        &mut || {
-            black_box(load_dump(black_box(&world.dump), 64));
-        },
+fn compare_loads() {
+    let (ranges, patches) = (Prepared::new(RANGES), Prepared::new(PATCHES));
+    let dump = &ranges.world.dump;
+    let times = race(vec![
+        contender(|| aisle::load_dump(black_box(dump), 64)),
+        contender(|| load_dump(black_box(dump), 64)),
+        contender(|| patches.load_proved()),
+        contender(|| patches.load_plain(Pace::Page)),
     ]);
-    say("plain", times.ratio(0, 1));
+    println!("loading a dump of 64 ranges:");
+    say("plain", times[0].by(&times[1]));
+    println!("loading a dump of 1 range and applying a patch file of 512 records:");
+    say("plain", times[2].by(&times[3]));
 }
 
-/// How each side's time grows.
-fn grow() {
-    let least = Setting {
-        pages: 16,
-        ranges: 1,
-        patches: 0,
-        piece: 2048,
+fn contender<'a, T>(work: impl Fn() -> T + 'a) -> Contender<'a> {
+    Box::new(move || {
+        black_box(work());
+    })
+}
+
+fn compare_fills() {
+    let fills = fills();
+    println!(
+        "fills, without loading and patching: how many times as long as the proved one each takes"
+    );
+    head(["default body", "plain bytes", "plain pages", "(loading)"]);
+    for (setting, fill) in SETTINGS.iter().zip(&fills) {
+        let others = [&fill.bytewise, &fill.bytes, &fill.pages, &fill.loading];
+        line(setting, others.map(|other| other.by(&fill.proved)));
+    }
+    let [least, _, ranges, _, _, _, _, patched, page, dense] = &fills[..] else {
+        unreachable!("there are as many fills as settings")
     };
-    println!(
-        "growth of a fill of 64 KiB, each side to its own at 1 range, no patches, reads of 2,048 bytes:"
-    );
-    println!(
-        "{:32} {:>8} {:>12} {:>12}",
-        "", "proved", "plain bytes", "plain pages"
-    );
-    for ranges in [1, 8, 64] {
-        Setting { ranges, ..least }.against(&least, &format!("{ranges} ranges"));
-    }
-    for patches in [0, 16, 256] {
-        Setting { patches, ..least }.against(&least, &format!("{patches} patches in each overlay"));
-    }
-    for piece in [2048, 256, 16] {
-        Setting { piece, ..least }.against(&least, &format!("reads of {piece} bytes"));
-    }
-}
-
-#[derive(Clone, Copy)]
-struct Setting {
-    pages: usize,
-    ranges: usize,
-    patches: usize,
-    piece: usize,
-}
-
-impl Setting {
-    fn race(&self) -> Times {
-        let prepared = Prepared::new(self);
-        let carts = [Pace::Byte, Pace::Page].map(|pace| prepared.fill_plain(pace));
-        let [mut bytes, mut pages] = carts;
-        race(&mut [&mut || prepared.fill_proved(), &mut bytes, &mut pages])
-    }
-
-    /// Prints this setting's times by those of another.
-    fn against(&self, other: &Setting, name: &str) {
-        let (this, that) = (Prepared::new(self), Prepared::new(other));
-        let [mut bytes, mut pages] = [Pace::Byte, Pace::Page].map(|pace| this.fill_plain(pace));
-        let [mut old_bytes, mut old_pages] =
-            [Pace::Byte, Pace::Page].map(|pace| that.fill_plain(pace));
-        let times = race(&mut [
-            &mut || this.fill_proved(),
-            &mut || that.fill_proved(),
-            &mut bytes,
-            &mut old_bytes,
-            &mut pages,
-            &mut old_pages,
-        ]);
-        let ratios = [0, 2, 4].map(|at| times.ratio(at, at + 1));
-        println!(
-            "  {name:30} {:>8.2} {:>12.2} {:>12.2}",
-            ratios[0], ratios[1], ratios[2]
+    println!("how many times as long each takes as itself in the first line");
+    head(["proved", "default body", "plain bytes", "plain pages"]);
+    for (setting, fill) in SETTINGS.iter().zip(&fills).take(7) {
+        line(
+            setting,
+            [
+                fill.proved.by(&least.proved),
+                fill.bytewise.by(&least.bytewise),
+                fill.bytes.by(&least.bytes),
+                fill.pages.by(&least.pages),
+            ],
         );
     }
+    println!("the proved fill, 64 ranges:");
+    println!(
+        "  {:.1} times as fast as the default body's",
+        ranges.bytewise.by(&ranges.proved)
+    );
+    println!(
+        "  with 256 patches in each overlay, {:.2} of its own speed with none",
+        ranges.proved.by(&patched.proved)
+    );
+    println!(
+        "  with each 16th byte of a page patched in each overlay, {:.2} of its own speed with none",
+        page.proved.by(&dense.proved)
+    );
+}
+
+fn head(names: [&str; 4]) {
+    let names = names.map(|name| format!("{name:>14}"));
+    println!("  {:60}{}", "", names.concat());
+}
+
+fn line(setting: &Setting, ratios: [f64; 4]) {
+    let ratios = ratios.map(|ratio| format!("{ratio:>14.3}"));
+    println!("  {:60}{}", setting.name, ratios.concat());
+}
+
+/// What the fills of a setting take: the proved one, that by the default body, and the plain ones, a byte and a page at a time.
+struct Fill {
+    proved: Laps,
+    bytewise: Laps,
+    bytes: Laps,
+    pages: Laps,
+    /// What the first two had to do before.
+    loading: Laps,
+}
+
+fn fills() -> Vec<Fill> {
+    let prepared = SETTINGS.map(Prepared::new);
+    let mut laps = race(prepared.iter().flat_map(Prepared::contenders).collect()).into_iter();
+    let mut next = || laps.next().expect("a lap of each contender");
+    let fill = |_| {
+        let [loading, proved, bytewise, bytes, pages] = [(); 5].map(|_| next());
+        Fill {
+            proved: proved.less(&loading),
+            bytewise: bytewise.less(&loading),
+            bytes,
+            pages,
+            loading,
+        }
+    };
+    prepared.iter().map(fill).collect()
 }
 
 /// A cart and a patch file, and all reads of it.
 struct Prepared {
     world: World,
     file: Vec<u8>,
-    pages: usize,
-    piece: usize,
+    setting: Setting,
 }
 
 impl Prepared {
-    fn new(setting: &Setting) -> Prepared {
-        let world = World::new(setting.pages, setting.ranges);
+    fn new(setting: Setting) -> Prepared {
+        let world = World::new(Size {
+            pages: PAGES,
+            run: RUN,
+            ranges: setting.ranges,
+        });
+        let file = match setting.patches {
+            Patches::Spread(count) => world.patches(count),
+            Patches::Dense => world.dense_patches(0),
+        };
         Prepared {
-            file: world.patches(setting.patches),
             world,
-            pages: setting.pages,
-            piece: setting.piece,
+            file,
+            setting,
         }
     }
 
-    /// The first addresses of all runs of pages.
+    /// In the order in which they are read by `fills`.
+    fn contenders(&self) -> [Contender<'_>; 5] {
+        [
+            contender(|| self.load_proved()),
+            self.fill_proved(aisle::read_patched),
+            self.fill_proved(aisle::read_bytewise),
+            self.fill_plain(Pace::Byte),
+            self.fill_plain(Pace::Page),
+        ]
+    }
+
+    /// The first addresses of all runs of pages that are read.
     fn runs(&self) -> impl Iterator<Item = u64> {
-        let step = RUN_BYTES / 4096;
-        (0..self.pages)
-            .step_by(step)
+        (0..self.setting.pages)
+            .step_by(RUN)
             .map(|page| self.world.page(page))
     }
 
-    /// Each call loads the cart and applies the file, which takes about a hundredth of the time at most.
-    fn fill_proved(&self) {
-        for first in self.runs() {
-            let read = Read {
-                dump: &self.world.dump,
-                root: &self.world.root,
-                file: &self.file,
-                first,
-                piece: self.piece,
-            };
-            let mut into = vec![0; RUN_BYTES];
-            let told = aisle::read_patched(&read, &mut into);
-            assert_eq!(told.count, RUN_BYTES);
-            black_box(into);
+    /// A buffer for a run.
+    fn buffer(&self) -> Vec<u8> {
+        vec![0; RUN.min(self.setting.pages) * PAGE]
+    }
+
+    fn read(&self, first: u64) -> Read<'_> {
+        Read {
+            dump: &self.world.dump,
+            root: &self.world.root,
+            file: &self.file,
+            first,
+            piece: self.setting.piece,
         }
     }
 
-    /// Fills of a cart that is loaded and patched once.
-    fn fill_plain(&self, pace: Pace) -> impl FnMut() {
-        let world = &self.world;
-        let mut cart = cart(&world.dump, &world.root, pace).expect("a good dump");
-        patchfile::apply(&self.file, &mut cart).expect("a good file");
-        move || {
-            for first in self.runs() {
-                let mut into = vec![0; RUN_BYTES];
-                let placed = fill_in_pieces(&cart, pace, first, self.piece, &mut into);
-                assert_eq!(placed, RUN_BYTES);
-                black_box(into);
-            }
+    /// What each call of a fill begins with, and no more: nothing is read.
+    fn load_proved(&self) {
+        for first in self.runs() {
+            let told = aisle::read_patched(black_box(&self.read(first)), &mut []);
+            assert_eq!(told.refusal, 0);
         }
+    }
+
+    /// Each call loads the cart and applies the file.
+    fn fill_proved(&self, read: fn(&Read, &mut [u8]) -> Told) -> Contender<'_> {
+        let mut into = self.buffer();
+        Box::new(move || {
+            for first in self.runs() {
+                let told = read(&self.read(first), black_box(&mut into));
+                assert_eq!(told.count, into.len());
+            }
+        })
+    }
+
+    fn load_plain(&self, pace: Pace) -> Cart<'_> {
+        let mut cart = cart(&self.world.dump, &self.world.root, pace).expect("a good dump");
+        patchfile::apply(&self.file, &mut cart).expect("a good file");
+        cart
+    }
+
+    /// Fills of a cart that is loaded and patched once.
+    fn fill_plain(&self, pace: Pace) -> Contender<'_> {
+        let cart = self.load_plain(pace);
+        let mut into = self.buffer();
+        Box::new(move || {
+            for first in self.runs() {
+                let placed =
+                    fill_in_pieces(&cart, pace, first, self.setting.piece, black_box(&mut into));
+                assert_eq!(placed, into.len());
+            }
+        })
     }
 }

@@ -3,7 +3,7 @@
 use crate::clock::race;
 use crate::fills::say;
 use bench::packets::frame;
-use bench::world::World;
+use bench::world::{Size, World};
 use std::io::{Read, Result, Write};
 use std::path::{Path, PathBuf};
 use std::process::{Child, ChildStdin, ChildStdout, Command, Stdio, id};
@@ -31,7 +31,11 @@ fn pin() -> Result<()> {
 }
 
 fn ping_pong(folder: &Path) -> Result<()> {
-    let world = World::new(8, 64);
+    let world = World::new(Size {
+        pages: 8,
+        run: 8,
+        ranges: 64,
+    });
     std::fs::write(folder.join("image.lime"), &world.dump)?;
     std::fs::write(folder.join("root.bin"), world.root)?;
     let mut proved = Served::start(Path::new(PROVED), folder)?;
@@ -42,13 +46,13 @@ fn ping_pong(folder: &Path) -> Result<()> {
         // `+`, the reply's frame
         let length = 1 + count * 2 + 4;
         assert_eq!(proved.ask(&packet, length)?, plain.ask(&packet, length)?);
-        let times = race(&mut [
-            &mut || drop(proved.ask(&packet, length).expect("a reply")),
-            &mut || drop(plain.ask(&packet, length).expect("a reply")),
+        let times = race(vec![
+            Box::new(|| drop(proved.ask(&packet, length).expect("a reply"))),
+            Box::new(|| drop(plain.ask(&packet, length).expect("a reply"))),
         ]);
         say(
             &format!("plain to answer a read of {count} addresses"),
-            times.ratio(0, 1),
+            times[0].by(&times[1]),
         );
     }
     proved.end()?;
