@@ -11,6 +11,9 @@ use std::process::{Child, ChildStdin, ChildStdout, Command, Stdio, id};
 /// Where `tools/built.sh` leaves the proved program.
 const PROVED: &str = concat!(env!("CARGO_MANIFEST_DIR"), "/../crates/serve/out/serve");
 
+/// The cart's pages, one behind the other.
+const PAGES: usize = 8;
+
 pub fn compare() -> Result<()> {
     pin()?;
     let folder = std::env::temp_dir().join(format!("aisle-speed-{}", id()));
@@ -32,8 +35,8 @@ fn pin() -> Result<()> {
 
 fn ping_pong(folder: &Path) -> Result<()> {
     let world = World::new(Size {
-        pages: 8,
-        run: 8,
+        pages: PAGES,
+        run: PAGES,
         ranges: 64,
     });
     std::fs::write(folder.join("image.lime"), &world.dump)?;
@@ -42,13 +45,18 @@ fn ping_pong(folder: &Path) -> Result<()> {
     let mut plain = Served::start(&beside("plain_serve")?, folder)?;
     println!("packets over a pipe, client and server on one processor:");
     for count in [1, 64, 2047] {
-        let packet = frame(format!("m{:x},{count:x}", world.page(0)).as_bytes());
+        // each page in turn, since its bytes are in the dump's first ranges or in its last
+        let packets: Vec<_> = (0..PAGES)
+            .map(|page| frame(format!("m{:x},{count:x}", world.page(page)).as_bytes()))
+            .collect();
         // `+`, the reply's frame
         let length = 1 + count * 2 + 4;
-        assert_eq!(proved.ask(&packet, length)?, plain.ask(&packet, length)?);
+        for packet in &packets {
+            assert_eq!(proved.ask(packet, length)?, plain.ask(packet, length)?);
+        }
         let times = race(vec![
-            Box::new(|| drop(proved.ask(&packet, length).expect("a reply"))),
-            Box::new(|| drop(plain.ask(&packet, length).expect("a reply"))),
+            Box::new(|| proved.ask_all(&packets, length)),
+            Box::new(|| plain.ask_all(&packets, length)),
         ]);
         say(
             &format!("plain to answer a read of {count} addresses"),
@@ -90,6 +98,12 @@ impl Served {
         let mut reply = vec![0; length];
         self.output.read_exact(&mut reply)?;
         Ok(reply)
+    }
+
+    fn ask_all(&mut self, packets: &[Vec<u8>], length: usize) {
+        for packet in packets {
+            drop(self.ask(packet, length).expect("a reply"));
+        }
     }
 
     fn end(mut self) -> Result<()> {
