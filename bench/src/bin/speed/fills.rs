@@ -127,7 +127,7 @@ fn compare_fills() {
     println!(
         "fills, without loading and patching: how many times as long as the proved one each takes"
     );
-    head(["default body", "plain bytes", "plain pages", "(loading)"]);
+    head(["default body", "plain bytes", "plain pages", "loading"]);
     for (setting, fill) in SETTINGS.iter().zip(&fills) {
         let others = [&fill.bytewise, &fill.bytes, &fill.pages, &fill.loading];
         line(setting, others.map(|other| other.by(&fill.proved)));
@@ -169,7 +169,14 @@ fn head(names: [&str; 4]) {
 }
 
 fn line(setting: &Setting, ratios: [f64; 4]) {
-    let ratios = ratios.map(|ratio| format!("{ratio:>14.3}"));
+    let ratios = ratios.map(|ratio| {
+        let digits = match ratio {
+            ..1.0 => 3,
+            1.0..10.0 => 2,
+            _ => 1,
+        };
+        format!("{ratio:>14.digits$}")
+    });
     println!("  {:60}{}", setting.name, ratios.concat());
 }
 
