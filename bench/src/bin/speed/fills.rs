@@ -8,7 +8,7 @@ use bench::space::Pace;
 use bench::world::{PAGE, Size, World};
 use std::hint::black_box;
 
-/// 1 MiB, in runs of pages that follow one another. Each run is read by one call.
+/// 1 MiB, in runs of pages that follow one another. Of each run all or the first page is read, by one call.
 const PAGES: usize = 256;
 const RUN: usize = 32;
 
@@ -18,7 +18,7 @@ struct Setting {
     ranges: usize,
     patches: Patches,
     piece: usize,
-    /// How many of the pages are read.
+    /// How many pages of each run are read.
     pages: usize,
 }
 
@@ -26,7 +26,7 @@ struct Setting {
 enum Patches {
     /// So many in each overlay, spread over all pages.
     Spread(usize),
-    /// Every 16th byte of the first page in each overlay.
+    /// Every 16th byte of the page that is read, in each overlay. Each page has a patch file of its own.
     Dense,
 }
 
@@ -35,7 +35,7 @@ const LEAST: Setting = Setting {
     ranges: 1,
     patches: Patches::Spread(0),
     piece: 2048,
-    pages: PAGES,
+    pages: RUN,
 };
 const RANGES: Setting = Setting {
     name: "64 ranges",
@@ -47,8 +47,8 @@ const PATCHES: Setting = Setting {
     patches: Patches::Spread(256),
     ..LEAST
 };
-const PAGE_ALONE: Setting = Setting {
-    name: "64 ranges, one page",
+const SINGLE_PAGES: Setting = Setting {
+    name: "64 ranges, single pages",
     pages: 1,
     ..RANGES
 };
@@ -84,11 +84,11 @@ const SETTINGS: [Setting; 10] = [
         ranges: 64,
         ..PATCHES
     },
-    PAGE_ALONE,
+    SINGLE_PAGES,
     Setting {
-        name: "64 ranges, one page, each 16th byte patched in each overlay",
+        name: "64 ranges, single pages, each 16th byte patched in each overlay",
         patches: Patches::Dense,
-        ..PAGE_ALONE
+        ..SINGLE_PAGES
     },
 ];
 
@@ -127,12 +127,12 @@ fn compare_fills() {
     println!(
         "fills, without loading and patching: how many times as long as the proved one each takes"
     );
-    head(["default body", "plain bytes", "plain pages", "(loading)"]);
+    head(["default body", "plain bytes", "plain pages", "loading"]);
     for (setting, fill) in SETTINGS.iter().zip(&fills) {
         let others = [&fill.bytewise, &fill.bytes, &fill.pages, &fill.loading];
         line(setting, others.map(|other| other.by(&fill.proved)));
     }
-    let [least, _, ranges, _, _, _, _, patched, page, dense] = &fills[..] else {
+    let [least, _, ranges, _, _, _, _, patched, single, dense] = &fills[..] else {
         unreachable!("there are as many fills as settings")
     };
     println!("how many times as long each takes as itself in the first line");
@@ -159,18 +159,25 @@ fn compare_fills() {
     );
     println!(
         "  with each 16th byte of a page patched in each overlay, {:.2} of its own speed with none",
-        page.proved.by(&dense.proved)
+        single.proved.by(&dense.proved)
     );
 }
 
 fn head(names: [&str; 4]) {
     let names = names.map(|name| format!("{name:>14}"));
-    println!("  {:60}{}", "", names.concat());
+    println!("  {:62}{}", "", names.concat());
 }
 
 fn line(setting: &Setting, ratios: [f64; 4]) {
-    let ratios = ratios.map(|ratio| format!("{ratio:>14.3}"));
-    println!("  {:60}{}", setting.name, ratios.concat());
+    let ratios = ratios.map(|ratio| {
+        let digits = match ratio {
+            ..1.0 => 3,
+            1.0..10.0 => 2,
+            _ => 1,
+        };
+        format!("{ratio:>14.digits$}")
+    });
+    println!("  {:62}{}", setting.name, ratios.concat());
 }
 
 /// What the fills of a setting take: the proved one, that by the default body, and the plain ones, a byte and a page at a time.
@@ -200,11 +207,12 @@ fn fills() -> Vec<Fill> {
     prepared.iter().map(fill).collect()
 }
 
-/// A cart and a patch file, and all reads of it.
+/// A cart, and all reads of it under patch files.
 struct Prepared {
     world: World,
-    file: Vec<u8>,
     setting: Setting,
+    /// The first page of each run, and the patch file under which it is read.
+    runs: Vec<(usize, Vec<u8>)>,
 }
 
 impl Prepared {
@@ -214,14 +222,18 @@ impl Prepared {
             run: RUN,
             ranges: setting.ranges,
         });
-        let file = match setting.patches {
+        let file = |page| match setting.patches {
             Patches::Spread(count) => world.patches(count),
-            Patches::Dense => world.dense_patches(0),
+            Patches::Dense => world.dense_patches(page),
         };
+        let runs = (0..PAGES)
+            .step_by(RUN)
+            .map(|page| (page, file(page)))
+            .collect();
         Prepared {
             world,
-            file,
             setting,
+            runs,
         }
     }
 
@@ -236,63 +248,60 @@ impl Prepared {
         ]
     }
 
-    /// The first addresses of all runs of pages that are read.
-    fn runs(&self) -> impl Iterator<Item = u64> {
-        (0..self.setting.pages)
-            .step_by(RUN)
-            .map(|page| self.world.page(page))
-    }
-
-    /// A buffer for a run.
-    fn buffer(&self) -> Vec<u8> {
-        vec![0; RUN.min(self.setting.pages) * PAGE]
-    }
-
-    fn read(&self, first: u64) -> Read<'_> {
-        Read {
+    fn reads(&self) -> impl Iterator<Item = Read<'_>> {
+        self.runs.iter().map(|(page, file)| Read {
             dump: &self.world.dump,
             root: &self.world.root,
-            file: &self.file,
-            first,
+            file,
+            first: self.world.page(*page),
             piece: self.setting.piece,
-        }
+        })
+    }
+
+    /// For one read.
+    fn buffer(&self) -> Vec<u8> {
+        vec![0; self.setting.pages * PAGE]
     }
 
     /// What each call of a fill begins with, and no more: nothing is read.
     fn load_proved(&self) {
-        for first in self.runs() {
-            let told = aisle::read_patched(black_box(&self.read(first)), &mut []);
+        for read in self.reads() {
+            let told = aisle::read_patched(black_box(&read), &mut []);
             assert_eq!(told.refusal, 0);
         }
     }
 
     /// Each call loads the cart and applies the file.
-    fn fill_proved(&self, read: fn(&Read, &mut [u8]) -> Told) -> Contender<'_> {
+    fn fill_proved(&self, fill: fn(&Read, &mut [u8]) -> Told) -> Contender<'_> {
         let mut into = self.buffer();
         Box::new(move || {
-            for first in self.runs() {
-                let told = read(&self.read(first), black_box(&mut into));
+            for read in self.reads() {
+                let told = fill(&read, black_box(&mut into));
                 assert_eq!(told.count, into.len());
             }
         })
     }
 
-    fn load_plain(&self, pace: Pace) -> Cart<'_> {
-        let mut cart = cart(&self.world.dump, &self.world.root, pace).expect("a good dump");
-        patchfile::apply(&self.file, &mut cart).expect("a good file");
-        cart
+    fn load_plain(&self, pace: Pace) -> Vec<Cart<'_>> {
+        self.reads().map(|read| patched(&read, pace)).collect()
     }
 
-    /// Fills of a cart that is loaded and patched once.
+    /// Fills of carts that are loaded and patched once.
     fn fill_plain(&self, pace: Pace) -> Contender<'_> {
-        let cart = self.load_plain(pace);
+        let carts = self.load_plain(pace);
         let mut into = self.buffer();
         Box::new(move || {
-            for first in self.runs() {
-                let placed =
-                    fill_in_pieces(&cart, pace, first, self.setting.piece, black_box(&mut into));
+            for (read, cart) in self.reads().zip(&carts) {
+                let (first, piece) = (read.first, read.piece);
+                let placed = fill_in_pieces(cart, pace, first, piece, black_box(&mut into));
                 assert_eq!(placed, into.len());
             }
         })
     }
+}
+
+fn patched<'a>(read: &Read<'a>, pace: Pace) -> Cart<'a> {
+    let mut cart = cart(read.dump, read.root, pace).expect("a good dump");
+    patchfile::apply(read.file, &mut cart).expect("a good file");
+    cart
 }
