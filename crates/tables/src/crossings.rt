@@ -101,7 +101,12 @@ fn a_read_has_a_whole_page(rt: HostRuntime) -> Result<(), Fail> {
     let mut board = Overlay::new(Ramp { length: 0xa000 });
     lay(&mut board, &TABLES)?;
     lay(&mut board, &[(0x4010, *b"\x03")])?;
-    for (at, byte) in [(0x9fff, b"a"), (0x8000, b"b"), (0x8fff, b"c"), (0x7000, b"d")] {
+    for (at, byte) in [
+        (0x9fff, b"a"),
+        (0x8000, b"b"),
+        (0x8fff, b"c"),
+        (0x7000, b"d"),
+    ] {
         board.set(0, at, byte)?;
     }
     let paging = Paging::new(FourLevel, 0x1000, board);
