@@ -1,6 +1,6 @@
 use Rattle.std.proofs.Common.{◌≡◌, ℕ, List, length, drop, Ok, Err, Option, Result, Some, None, refl, arith}
 use Rattle.std.proofs.Math.Seq.{take-append_seam}
-use Rattle.spaces.specs.declared.refusal.Refusal.{Refusal}
+use Rattle.images.specs.declared.refusal.LoadRefusal.{LoadRefusal}
 use Rattle.spaces.specs.Piles.{Pile}
 use Rattle.extents.specs.declared.table.Table.{Table}
 use Rattle.extents.specs.Tables.{held}
@@ -23,11 +23,11 @@ pub holds : {E : Type 0} (load : Load E) (t u : Table E) (r : Result ℕ NotLoad
 holds load t u r h = grind (arith, take-append_seam load.extents (drop (length load.extents) t.entries.now), h.table)
 
 -- where the extents are counted there is a pile
-pub accepted : (o : Option (Refusal × ℕ)) (n m : ℕ) (p : Pile) → answer o n ≡ Ok m → unless_refused o p ≡ Ok p
+pub accepted : (o : Option (LoadRefusal × ℕ)) (n m : ℕ) (p : Pile) → answer o n ≡ Ok m → unless_refused o p ≡ Ok p
 accepted None n m p e = refl
 accepted (Some x) n m p e = grind arith
 
 -- where the load is refused there is none
-pub refused : (o : Option (Refusal × ℕ)) (n : ℕ) (m : NotLoaded) (p : Pile) → answer o n ≡ Err m → unless_refused o p ≡ Err m.refusal
+pub refused : (o : Option (LoadRefusal × ℕ)) (n : ℕ) (m : NotLoaded) (p : Pile) → answer o n ≡ Err m → unless_refused o p ≡ Err m.refusal
 refused None n m p e = grind arith
 refused (Some x) n m p e = grind arith

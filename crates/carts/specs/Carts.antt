@@ -1,5 +1,5 @@
 use Rattle.std.specs.Prelude.{ℕ, List, [], take, Some, None, Ok, Err, Option, Result}
-use Rattle.spaces.specs.declared.refusal.Refusal.{Refusal}
+use Rattle.images.specs.declared.refusal.LoadRefusal.{LoadRefusal}
 use Rattle.spaces.specs.Piles.{Pile, overlay, on}
 use Rattle.endian.specs.Little.{little_endian}
 use Rattle.images.specs.declared.range.LimeRange.{LimeRange}
@@ -37,10 +37,10 @@ abbrev pub cart_pile : (dump : List ℕ) (cr3 : ℕ) → Pile
 cart_pile dump cr3 = layered cr3 (image_of dump)
 
 -- a pile, unless its load is refused
-abbrev pub unless_refused : Option (Refusal × ℕ) → Pile → Result Pile Refusal
+abbrev pub unless_refused : Option (LoadRefusal × ℕ) → Pile → Result Pile LoadRefusal
 unless_refused None p = Ok p
 unless_refused (Some (refusal, place)) p = Err refusal
 
 -- the pile of a cart by its two files, or the refusal of its dump
-abbrev pub cart_in : (dump root : List ℕ) → Result Pile Refusal
+abbrev pub cart_in : (dump root : List ℕ) → Result Pile LoadRefusal
 cart_in dump root = unless_refused (loaded dump).refused (cart_pile dump (cr3_in root))

@@ -4,10 +4,10 @@ ghost use Rattle.carts.specs.Meant.{meant};
 
 use crate::root::cr3_in;
 use extents::Table;
-use images::{Image, LimeRange, load_lime};
+use images::{Image, LimeRange, LoadRefusal, load_lime};
 use overlays::Overlay;
 use paging::{FourLevel, Paging};
-use spaces::{Refusal, Space};
+use spaces::Space;
 
 // A stopped cart, from the top: an overlay, four-level paging, an overlay, the image of its dump.
 pub type Cart<'t, 'f> = Overlay<Paging<FourLevel, Overlay<Image<'t, 'f, LimeRange>>>>;
@@ -30,7 +30,7 @@ fn counted(dump: &[u8]) -> &[u8]
 fn load_image<'t, 'f>(
     dump: &'f [u8],
     memory: &'t mut [LimeRange; RANGES],
-) -> Result<Image<'t, 'f, LimeRange>, Refusal>
+) -> Result<Image<'t, 'f, LimeRange>, LoadRefusal>
     ensures { meant ⟦<Image<'t, 'f, LimeRange> as Space>⟧.meaning result ≡ unless_refused (loaded dump.now).refused (image_of dump.now) }
 {
     let file = counted(dump);
@@ -52,7 +52,7 @@ pub fn load_cart<'t, 'f>(
     dump: &'f [u8],
     root: &[u8],
     memory: &'t mut [LimeRange; RANGES],
-) -> Result<Cart<'t, 'f>, Refusal>
+) -> Result<Cart<'t, 'f>, LoadRefusal>
     ensures { meant ⟦<Cart<'t, 'f> as Space>⟧.meaning result ≡ cart_in dump.now root.now }
 {
     let image = load_image(dump, memory)?;

@@ -2,6 +2,7 @@ use Rattle.std.specs.Prelude.{◌≡◌, ◌⊎◌, ◌≤◌, ℕ, false, List,
 use Rattle.std.specs.Io.KnownBytes.{Appends}
 use Rattle.spaces.specs.Piles.{Pile}
 use Rattle.patchfiles.specs.declared.stopped.Stopped.{Stopped}
+use Rattle.patchfiles.specs.Refusals.{patch_file_refusal_number}
 use Rattle.patchfiles.specs.Files.{asked, answer_by, left_of}
 use Rattle.serving.specs.Serving.{Run, fresh, all_served}
 use Rattle.exports.specs.declared.told.Told.{Told}
@@ -44,7 +45,7 @@ module _ (p : Pile) (before file after : List ℕ) where
 -- what is told of the file, and how many bytes were sent
 abbrev pub told_by : Result ℕ Stopped → (count : ℕ) → Told
 told_by (Ok records) count = done records count
-told_by (Err stopped) count = refused stopped.refusal stopped.index count
+told_by (Err stopped) count = refused (patch_file_refusal_number stopped.refusal) stopped.index count
 
 -- What is told of a day, and the buffer before and after.
 module _ (told : Told) (old new : List ℕ) where

@@ -1,6 +1,7 @@
 use Rattle.std.specs.Prelude.{ℕ, min, List, length, Ok, Err, Result}
 use Rattle.images.specs.declared.load.NotLoaded.{NotLoaded}
 use Rattle.images.specs.declared.range.LimeRange.{LimeRange}
+use Rattle.images.specs.Refusals.{load_refusal_number}
 use Rattle.images.specs.Loads.{Load, answer}
 use Rattle.images.specs.Lime.{lime}
 use Rattle.exports.specs.declared.told.Told.{Told}
@@ -16,7 +17,7 @@ loaded room dump = lime (min room 64) dump
 -- what is told of it
 abbrev pub told_by : Result ℕ NotLoaded → Told
 told_by (Ok count) = done 0 count
-told_by (Err stopped) = refused stopped.refusal stopped.place stopped.written
+told_by (Err stopped) = refused (load_refusal_number stopped.refusal) stopped.place stopped.written
 
 abbrev pub told_of : Load LimeRange → Told
 told_of load = told_by (answer load.refused (length load.extents))

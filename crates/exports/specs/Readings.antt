@@ -1,10 +1,12 @@
 use Rattle.std.specs.Prelude.{◌≡◌, ℕ, List, [], ◌++◌, length, drop, Some, None, Ok, Err, Option, Result}
-use Rattle.spaces.specs.declared.refusal.Refusal.{Refusal}
+use Rattle.images.specs.declared.refusal.LoadRefusal.{LoadRefusal}
 use Rattle.spaces.specs.Reads.{Got, got, room}
 use Rattle.spaces.specs.Piles.{Pile, shown}
 use Rattle.images.specs.Kinds.{lime_bounds, lime_places}
 use Rattle.images.specs.Images.{image_bottom}
+use Rattle.images.specs.Refusals.{load_refusal_number}
 use Rattle.patchfiles.specs.declared.stopped.Stopped.{Stopped}
+use Rattle.patchfiles.specs.Refusals.{patch_file_refusal_number}
 use Rattle.patchfiles.specs.Files.{asked, answer_by, left_of}
 use Rattle.carts.specs.Carts.{cr3_in, layered}
 use Rattle.exports.specs.declared.told.Told.{Told}
@@ -19,8 +21,8 @@ pub record Reading : Type 0 where
   pub bytes : List ℕ
 
 -- nothing is read
-abbrev pub nothing : Refusal → (place : ℕ) → Reading
-nothing refusal place = record { told = refused refusal place 0; bytes = [] }
+abbrev pub nothing : (number place : ℕ) → Reading
+nothing number place = record { told = refused number place 0; bytes = [] }
 
 abbrev pub all : Got → Reading
 all g = record { told = done 0 (length g.bytes); bytes = g.bytes }
@@ -28,16 +30,16 @@ all g = record { told = done 0 (length g.bytes); bytes = g.bytes }
 -- what is got, unless the file is refused
 abbrev pub under : Result ℕ Stopped → Got → Reading
 under (Ok records) g = all g
-under (Err stopped) g = nothing stopped.refusal stopped.index
+under (Err stopped) g = nothing (patch_file_refusal_number stopped.refusal) stopped.index
 
 -- of a pile, from an address on, into a buffer
 abbrev pub read_patched : Pile → (file : List ℕ) (first : ℕ) (buffer : List ℕ) → Reading
 read_patched p file first buffer = under (answer_by (asked file) p) (got (shown (left_of (asked file) p)) (room first buffer))
 
 -- a reading, unless the dump is refused
-abbrev pub unless_refused : Option (Refusal × ℕ) → Reading → Reading
+abbrev pub unless_refused : Option (LoadRefusal × ℕ) → Reading → Reading
 unless_refused None r = r
-unless_refused (Some (refusal, place)) r = nothing refusal place
+unless_refused (Some (refusal, place)) r = nothing (load_refusal_number refusal) place
 
 -- the layers of a cart on the image of a whole dump
 abbrev pub whole_cart : (dump root : List ℕ) → Pile

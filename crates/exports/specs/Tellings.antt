@@ -1,6 +1,4 @@
 use Rattle.std.specs.Prelude.{ℕ}
-use Rattle.spaces.specs.declared.refusal.Refusal.{Refusal}
-use Rattle.spaces.specs.Numbers.{refusal_number}
 use Rattle.exports.specs.declared.told.Told.{Told}
 
 -- What is told of a call.
@@ -8,8 +6,8 @@ use Rattle.exports.specs.declared.told.Told.{Told}
 abbrev pub done : (place count : ℕ) → Told
 done place count = record { refusal = 0; place = place; count = count }
 
-abbrev pub refused : Refusal → (place count : ℕ) → Told
-refused refusal place count = record { refusal = refusal_number refusal; place = place; count = count }
+abbrev pub refused : (number place count : ℕ) → Told
+refused number place count = record { refusal = number; place = place; count = count }
 
 -- the number that no refusal has: serving broke off
 abbrev pub broke_off : Told

@@ -1,4 +1,4 @@
-use spaces::{Edit, Fault, Refusal, Space};
+use spaces::{Edit, Fault, EditRefusal, Space};
 
 // A space that is filled byte by byte, by the trait's own body, however the space within fills a buffer.
 #[derive(Drop)]
@@ -15,7 +15,7 @@ impl<S: Space> Space for Bytewise<S> {
         self.within.byte(at)
     }
 
-    fn edit(&mut self, depth: u8, edit: Edit<'_>) -> Result<(), Refusal> {
+    fn edit(&mut self, depth: u8, edit: Edit<'_>) -> Result<(), EditRefusal> {
         self.within.edit(depth, edit)
     }
 }

@@ -1,4 +1,5 @@
 ghost use Rattle.std.specs.Prelude.{IfOk, IfErr};
+ghost use Rattle.images.specs.Refusals.{load_refusal_number};
 ghost use Rattle.carts.specs.Carts.{cart_in};
 ghost use Rattle.exports.specs.Tellings.{refused};
 ghost use Rattle.exports.specs.Days.{IsServed, IsSent, TellsOnly, TellsUnlessItBreaksOff};
@@ -85,7 +86,7 @@ pub extern "C" fn aisle_serve(
     sent: &mut [u8],
     told: &mut Told,
 )
-    ensures refused_dump { IfErr (cart_in dump.now root.now) (λ refusal. TellsOnly told.new sent.old sent.new (refused refusal 0 0)) }
+    ensures refused_dump { IfErr (cart_in dump.now root.now) (λ refusal. TellsOnly told.new sent.old sent.new (refused (load_refusal_number refusal) 0 0)) }
     ensures unless_it_breaks_off { IfOk (cart_in dump.now root.now) (λ cart. TellsUnlessItBreaksOff told.new sent.old sent.new cart before.now file.now after.now) }
 {
     let mut memory = [LimeRange::default(); RANGES];

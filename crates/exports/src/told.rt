@@ -1,4 +1,4 @@
-use spaces::{Numbered, Refusal};
+use numbers::Numbered;
 
 // What a call tells: the number of a refusal or 0, where it was met, and a count.
 #[derive(Clone, Copy, Debug, PartialEq, Eq)]
@@ -25,8 +25,8 @@ impl Told {
     }
 
     // Something was.
-    pub(crate) fn refused(refusal: Refusal, place: usize, count: usize) -> Told
-        ensures { result ≡ refused refusal place count }
+    pub(crate) fn refused<R: Numbered>(refusal: R, place: usize, count: usize) -> Told
+        ensures { result ≡ refused (R.Numbered.number refusal) place count }
     {
         Told {
             refusal: refusal.number(),

@@ -1,27 +1,62 @@
-use Rattle.std.proofs.Common.{◌≡◌, ℕ, ◌+◌, false, List, Ok, Err, Result, refl, arith}
+use Rattle.std.proofs.Common.{◌≡◌, ℕ, ◌-◌, ◌<◌, ◌≤◌, min, List, length, inl, inr, refl, sym, ◌∙◌, arith}
+use Rattle.std.proofs.lemmas.Bool.{cases_lt}
 use Rattle.std.proofs.lemmas.Bool.Decides.{nat_tests}
-use Rattle.spaces.specs.declared.refusal.Refusal.{Refusal}
-use Rattle.spaces.specs.declared.refusal.Refusal.TheVariants.{HeaderCut, BadHeader, Overlap}
-use Rattle.extents.specs.Tables.{overlaps_any}
+use Rattle.extents.specs.declared.table.Table.{Table}
+use Rattle.extents.specs.Tables.{held, room}
 use Rattle.extents.proofs.Searching.{exact_by}
+use Rattle.endian.specs.Little.{number_at}
+use Rattle.images.specs.declared.refusal.LoadRefusal.{LoadRefusal}
+use Rattle.images.specs.declared.refusal.LoadRefusal.TheVariants.{HeaderCut, BadHeader, Overlap, TableFull}
 use Rattle.images.specs.declared.range.LimeRange.{LimeRange}
 use Rattle.images.specs.Kinds.{lime_bounds}
-use Rattle.endian.specs.Little.{number_at}
-use Rattle.images.specs.Lime.{next_range}
-use Rattle.images.specs.Shows.{Header, Why, cut, bad, overlapping}
+use Rattle.images.specs.Steps.{no_header, header_of, as_next}
+use Rattle.images.specs.Lime.{header_at, end_of, lime_header}
+use Rattle.images.specs.Shows.{Header, Leads, here, range, Why, cut, bad, overlapping, full}
+use Rattle.images.proofs.Loading.{at_end, Underway, not_added}
+use Rattle.images.proofs.Walking.{Follow, RefusedAt}
+use Rattle.images.proofs.Walking as walks
 
--- What is read at a place says what stands there: a header apart from the ranges before it, or a reason to refuse it.
-module _ (file : List ℕ) (place room : ℕ) (before : List LimeRange) where
-  abbrev there : LimeRange
-  there = record { first = number_at file (place + 8) 8; last = number_at file (place + 16) 8; place = place + 32 }
+-- What is read at a place of a LiME file says what stands there.
+module _ (file : List ℕ) where
+  pub there : (place : ℕ) → place < length file → lime_header file place ≡ as_next end_of (header_at file place)
+  there place h = grind (arith, nat_tests)
 
-  abbrev pub Judged : Result LimeRange Refusal → Type 0
-  Judged (Ok r) = Header file place r × (overlaps_any lime_bounds before (lime_bounds r) ≡ false)
-  Judged (Err refusal) = Why file room before place refusal
+  pub ends_at : (place : ℕ) → length file ≤ place → lime_header file place ≡ no_header
+  ends_at place h = grind (arith, nat_tests)
 
-  pub judged : (w : Result LimeRange Refusal) → next_range file place before ≡ w → Judged w
-  judged (Ok r) e = grind (arith, nat_tests)
-  judged (Err HeaderCut) e = cut (grind (arith, nat_tests))
-  judged (Err BadHeader) e = bad (grind (arith, nat_tests)) (λ r h. grind (arith, nat_tests))
-  judged (Err Overlap) e = overlapping {r = there} (grind (arith, nat_tests)) (grind (arith, nat_tests, exact_by lime_bounds (lime_bounds there) before _ refl))
-  judged (Err _) e = absurd (grind (arith, nat_tests))
+  -- a place behind the file's end is as good as the end
+  pub clamped : (t u : Table LimeRange) (place : ℕ) → Underway lime_bounds (lime_header file) 0 t u place → Underway lime_bounds (lime_header file) 0 t u (min place (length file))
+  clamped t u place s = elim (cases_lt place (length file)) [
+    | inl h ↦ let e : min place (length file) ≡ place = omega arith in rw e s
+    | inr h ↦
+        let n : ℕ = room t - length (held u) in
+        let here = at_end lime_bounds (lime_header file) place (held u) n (ends_at place h) in
+        let e : min place (length file) ≡ length file = omega arith in
+        let end = at_end lime_bounds (lime_header file) (length file) (held u) n (ends_at (length file) (omega arith)) in
+        rw e (record { few = s.few; table = s.table; same = s.same ∙ here ∙ sym end })
+  ]
+
+  -- a header that is read
+  pub record Read (place : ℕ) (r : LimeRange) (behind : ℕ) : Type 0 where
+    pub inside : place < length file
+    pub header : Header file place r
+    pub next : behind ≡ end_of r
+
+  pub read_at : (place : ℕ) (r : LimeRange) (behind : ℕ) → lime_header file place ≡ header_of r behind → Read place r behind
+  read_at place r behind q = grind (arith, nat_tests)
+
+  -- ranges stand one behind the other
+  pub leads : {place stop : ℕ} {rs : List LimeRange} → Follow lime_bounds (lime_header file) place rs stop → Leads file place rs stop
+  leads walks.here = here
+  leads (walks.then {place = place} {behind = behind} {stop = stop} {e = r} {es = rs} q f) = let t = read_at place r behind q in range t.header (rw t.next at (leads f))
+
+  -- a reason to refuse a header, which stands before the file's end
+  pub why : (room stop : ℕ) (before : List LimeRange) (refusal : LoadRefusal) → length before ≤ room → RefusedAt lime_bounds (lime_header file) room before stop refusal
+      → (stop < length file) × Why file room before stop refusal
+  why room stop before HeaderCut few (inl q) = (grind (arith, nat_tests), cut (grind (arith, nat_tests)))
+  why room stop before BadHeader few (inl q) = (grind (arith, nat_tests), bad (grind (arith, nat_tests)) (λ r h. grind (arith, nat_tests)))
+  why room stop before _ few (inl q) = absurd (grind (arith, nat_tests))
+  why room stop before refusal few (inr (r, behind, q, o)) = let t = read_at stop r behind q in (t.inside, elim (not_added lime_bounds room before r refusal o) [
+    | inl p ↦ rw p.0 (overlapping t.header ((exact_by lime_bounds (lime_bounds r) before _ refl).0 p.1))
+    | inr p ↦ rw p.0 (full t.header (λ a. grind (arith, exact_by lime_bounds (lime_bounds r) before _ refl)) (omega (arith, p.2)))
+  ])

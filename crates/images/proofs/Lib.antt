@@ -1,4 +1,5 @@
 pub mod Loading
 pub mod Separate
+pub mod Walking
 pub mod Headers
 pub mod Showing

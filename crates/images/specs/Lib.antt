@@ -1,6 +1,9 @@
+pub mod Refusals
+pub mod Causes
 pub mod Kinds
 pub mod Images
 pub mod Loads
+pub mod Steps
 pub mod Raw
 pub mod Lime
 pub mod Shows

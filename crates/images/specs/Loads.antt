@@ -1,6 +1,6 @@
 use Rattle.std.specs.Prelude.{◌≡◌, ℕ, List, ◌++◌, length, drop, Some, None, Ok, Err, Option, Result}
 use denote.Ref.{at_last}
-use Rattle.spaces.specs.declared.refusal.Refusal.{Refusal}
+use Rattle.images.specs.declared.refusal.LoadRefusal.{LoadRefusal}
 use Rattle.extents.specs.declared.table.Table.{Table}
 use Rattle.extents.specs.Tables.{IsTable}
 use Rattle.images.specs.declared.load.NotLoaded.{NotLoaded}
@@ -8,10 +8,10 @@ use Rattle.images.specs.declared.load.NotLoaded.{NotLoaded}
 -- what a loader makes of a file: the extents that it writes, and the refusal that ends it, with the place of the header in question
 pub record Load (E : Type 0) : Type 0 where
   pub extents : List E
-  pub refused : Option (Refusal × ℕ)
+  pub refused : Option (LoadRefusal × ℕ)
 
 -- the answer, by the number of extents written
-abbrev pub answer : Option (Refusal × ℕ) → ℕ → Result ℕ NotLoaded
+abbrev pub answer : Option (LoadRefusal × ℕ) → ℕ → Result ℕ NotLoaded
 answer None n = Ok n
 answer (Some (refusal, place)) n = Err (record { refusal = refusal; place = place; written = n })
 

@@ -1,6 +1,6 @@
 use Rattle.std.specs.Prelude.{◌≡◌, ℕ, zero, suc, ◌<◌, ◌≤◌, List, [], ◌∷◌, length, Some, None, Ok, Err, slice_index}
-use Rattle.spaces.specs.declared.cause.Cause.TheVariants.{NoExtent}
-use Rattle.spaces.specs.declared.refusal.Refusal.TheVariants.{TableFull}
+use Rattle.images.specs.declared.cause.ImageCause.TheVariants.{NoExtent}
+use Rattle.images.specs.declared.refusal.LoadRefusal.TheVariants.{TableFull}
 use Rattle.images.specs.declared.load.NotLoaded.{NotLoaded}
 use Rattle.images.specs.declared.raw.RawExtent.{RawExtent}
 use Rattle.images.specs.Kinds.{raw_bounds, raw_places}

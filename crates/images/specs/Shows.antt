@@ -1,8 +1,8 @@
 use Rattle.std.specs.Prelude.{◌≡◌, ℕ, ◌+◌, ◌-◌, ◌<◌, ◌≤◌, List, [], ◌∷◌, length, Some, Ok, Err, slice_index}
 use Rattle.std.specs.List.{slice_get}
-use Rattle.spaces.specs.declared.cause.Cause.TheVariants.{NoExtent, NotStored}
-use Rattle.spaces.specs.declared.refusal.Refusal.{Refusal}
-use Rattle.spaces.specs.declared.refusal.Refusal.TheVariants.{HeaderCut, BadHeader, Overlap, TableFull}
+use Rattle.images.specs.declared.cause.ImageCause.TheVariants.{NoExtent, NotStored}
+use Rattle.images.specs.declared.refusal.LoadRefusal.{LoadRefusal}
+use Rattle.images.specs.declared.refusal.LoadRefusal.TheVariants.{HeaderCut, BadHeader, Overlap, TableFull}
 use Rattle.extents.specs.Tables.{OverlapAny}
 use Rattle.endian.specs.Little.{number_at}
 use Rattle.images.specs.declared.load.NotLoaded.{NotLoaded}
@@ -40,7 +40,7 @@ pub record ShowsRanges (file : List ℕ) (extents : List LimeRange) : Type 0 whe
 
 -- Why the header at a place is refused, where a table of so much room holds the ranges before it. Each reason leaves out
 -- those before it, so that a header has one at most.
-pub data Why (file : List ℕ) (room : ℕ) (before : List LimeRange) (place : ℕ) : Refusal → Type 0 where
+pub data Why (file : List ℕ) (room : ℕ) (before : List LimeRange) (place : ℕ) : LoadRefusal → Type 0 where
   cut : length file < place + 32 → Why file room before place HeaderCut
   bad : place + 32 ≤ length file → ((r : LimeRange) → Header file place r → ⊥) → Why file room before place BadHeader
   overlapping : {r : LimeRange} → Header file place r → OverlapAny lime_bounds before (lime_bounds r) → Why file room before place Overlap

@@ -1,14 +1,17 @@
 ghost use Rattle.std.specs.Prelude.{◌≡◌, ◌<◌, min, length, MatchResult};
 ghost use Rattle.extents.specs.Tables.{held, room};
 ghost use Rattle.images.specs.Loads.{Loads};
-ghost use Rattle.images.specs.Lime.{header_in, header_at, next_range, Adds, end_of, lime};
+ghost use Rattle.images.specs.Kinds.{lime_bounds};
+ghost use Rattle.images.specs.Steps.{AddsNext};
+ghost use Rattle.images.specs.Lime.{header_in, header_at, end_of, lime};
 ghost use Rattle.images.specs.Shows.{ShowsRanges, StopsAt};
 
 use crate::load::NotLoaded;
 use crate::range::LimeRange;
+use crate::refusal::LoadRefusal;
+use crate::step::add;
 use endian::{u32_at, u64_at};
 use extents::Table;
-use spaces::Refusal;
 
 const MAGIC: u32 = 0x4C69_4D45;
 
@@ -39,29 +42,18 @@ fn header_in(file: &[u8], place: usize) -> Option<Header>
 }
 
 // The range whose header stands at a place.
-fn header_at(file: &[u8], place: usize) -> Result<LimeRange, Refusal>
+fn header_at(file: &[u8], place: usize) -> Result<LimeRange, LoadRefusal>
     ensures { result ≡ header_at file.now place }
 {
-    let header = header_in(file, place).ok_or(Refusal::HeaderCut)?;
+    let header = header_in(file, place).ok_or(LoadRefusal::HeaderCut)?;
     if header.magic != MAGIC || header.version != 1 || header.last < header.first {
-        return Err(Refusal::BadHeader);
+        return Err(LoadRefusal::BadHeader);
     }
     Ok(LimeRange {
         first: header.first,
         last: header.last,
         place: (place + HEADER) as u64,
     })
-}
-
-// The same, unless it overlaps one that the table holds.
-fn next_range(file: &[u8], place: usize, table: &Table<'_, LimeRange>) -> Result<LimeRange, Refusal>
-    ensures { result ≡ next_range file.now place (held table.now) }
-{
-    let range = header_at(file, place)?;
-    if table.overlaps(&range) {
-        return Err(Refusal::Overlap);
-    }
-    Ok(range)
 }
 
 // The place behind a range's bytes, the file's end at the latest.
@@ -77,11 +69,11 @@ fn add_next(
     file: &[u8],
     place: usize,
     table: &mut Table<'_, LimeRange>,
-) -> Result<LimeRange, Refusal>
-    ensures { Adds (next_range file.now place (held table.old)) table.old table.new result }
+) -> Result<LimeRange, LoadRefusal>
+    ensures { AddsNext lime_bounds (header_at file.now place) table.old table.new result }
 {
-    let range = next_range(file, place, table)?;
-    table.push(range).map_err(|_| Refusal::TableFull)?;
+    let range = header_at(file, place)?;
+    add(table, range)?;
     Ok(range)
 }
 

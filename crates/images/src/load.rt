@@ -1,7 +1,7 @@
 ghost use Rattle.std.specs.Prelude.{Some};
 ghost use Rattle.images.specs.Texts.{not_loaded_text};
 
-use spaces::Refusal;
+use crate::refusal::LoadRefusal;
 use std::error::Error;
 use std::fmt;
 
@@ -9,7 +9,7 @@ use std::fmt;
 // written before it.
 #[derive(Clone, Copy, Debug, PartialEq, Eq)]
 pub struct NotLoaded {
-    pub refusal: Refusal,
+    pub refusal: LoadRefusal,
     pub place: usize,
     pub written: usize,
 }

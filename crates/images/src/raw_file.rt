@@ -5,8 +5,8 @@ ghost use Rattle.images.specs.Raw.{raw, ShowsFile, NoRoom};
 
 use crate::load::NotLoaded;
 use crate::raw::RawExtent;
+use crate::step::add;
 use extents::Table;
-use spaces::Refusal;
 
 // Makes the table hold a raw file's extent.
 pub fn load_raw(file: &[u8], table: &mut Table<'_, RawExtent>) -> Result<usize, NotLoaded>
@@ -17,8 +17,8 @@ pub fn load_raw(file: &[u8], table: &mut Table<'_, RawExtent>) -> Result<usize, 
     let Some(last) = (file.len() as u64).checked_sub(1) else {
         return Ok(0);
     };
-    table.push(RawExtent { last }).map_err(|_| NotLoaded {
-        refusal: Refusal::TableFull,
+    add(table, RawExtent { last }).map_err(|refusal| NotLoaded {
+        refusal,
         place: 0,
         written: 0,
     })?;

@@ -2,7 +2,7 @@ ghost use Rattle.spaces.specs.Piles.{bottom};
 ghost use Rattle.spaces.proofs.Lawful.{bottom_lawful};
 ghost use Rattle.outsiders.specs.Shapes.{ramp};
 
-use spaces::{Edit, Fault, Refusal, Space, no_overlay_here};
+use spaces::{Edit, Fault, EditRefusal, Space, no_overlay_here};
 
 // Bytes that count up from 0, as many as it is long.
 #[derive(Drop)]
@@ -23,7 +23,7 @@ impl Space for Ramp {
         Err(Fault::own(at, 0x77))
     }
 
-    fn edit(&mut self, depth: u8, edit: Edit<'_>) -> Result<(), Refusal> {
+    fn edit(&mut self, depth: u8, edit: Edit<'_>) -> Result<(), EditRefusal> {
         Err(no_overlay_here(edit))
     }
 }

@@ -2,7 +2,7 @@ ghost use Rattle.spaces.specs.Piles.{on, plain};
 ghost use Rattle.spaces.proofs.Lawful.{on_lawful};
 ghost use Rattle.outsiders.specs.Spares.{spare, spare_lawful};
 
-use spaces::{Edit, Fault, Refusal, Space, climb, edit_under};
+use spaces::{Edit, Fault, EditRefusal, Space, climb, edit_under};
 
 // A space that has a spare copy of itself: where an address has no byte, the one `offset` places further on answers.
 // It goes on after a fault, so it is no walk.
@@ -28,7 +28,7 @@ impl<S: Space> Space for Spare<S> {
         }
     }
 
-    fn edit(&mut self, depth: u8, edit: Edit<'_>) -> Result<(), Refusal> {
+    fn edit(&mut self, depth: u8, edit: Edit<'_>) -> Result<(), EditRefusal> {
         edit_under(&mut self.below, depth, edit)
     }
 }

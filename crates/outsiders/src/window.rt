@@ -2,7 +2,7 @@ ghost use Rattle.spaces.specs.Piles.{on, walking};
 ghost use Rattle.spaces.proofs.Walking.{walking_lawful};
 ghost use Rattle.outsiders.specs.Shapes.{window};
 
-use spaces::{Edit, Fault, Refusal, Space, climb, edit_under};
+use spaces::{Edit, Fault, EditRefusal, Space, climb, edit_under};
 
 // A part of the space below, shown from address 0 on.
 #[derive(Drop)]
@@ -28,7 +28,7 @@ impl<S: Space> Space for Window<S> {
         }
     }
 
-    fn edit(&mut self, depth: u8, edit: Edit<'_>) -> Result<(), Refusal> {
+    fn edit(&mut self, depth: u8, edit: Edit<'_>) -> Result<(), EditRefusal> {
         edit_under(&mut self.below, depth, edit)
     }
 }

@@ -4,7 +4,7 @@ ghost use Rattle.spaces.proofs.Lawful.{on_lawful};
 ghost use Rattle.overlays.specs.Tables.{held, held_lawful};
 
 use crate::table::PatchTable;
-use spaces::{Edit, Fault, Refusal, Space, climb, fill_below, most};
+use spaces::{Edit, Fault, EditRefusal, Space, climb, fill_below, most};
 
 // A layer of patches over the space below.
 #[derive(Drop)]
@@ -59,7 +59,7 @@ impl<S: Space> Space for Overlay<S> {
         (count, None)
     }
 
-    fn edit(&mut self, depth: u8, edit: Edit<'_>) -> Result<(), Refusal> {
+    fn edit(&mut self, depth: u8, edit: Edit<'_>) -> Result<(), EditRefusal> {
         // not by `edit_under`, which refuses what is for this depth
         match depth.checked_sub(1) {
             Some(depth) => self.below.edit(depth, edit),

@@ -7,15 +7,15 @@ use Rattle.std.proofs.lemmas.Slice.Eq.{bytes_eq-Decides}
 use Rattle.packets.specs.Digits.{spelled}
 use Rattle.packets.specs.Splits.{split_once}
 use Rattle.std.specs.Result.{MatchResult}
-use Rattle.spaces.specs.declared.refusal.Refusal.{Refusal}
-use Rattle.spaces.specs.declared.refusal.Refusal.TheVariants.{BadForm, NoAddresses, WrongDigits, PastTheEnd}
+use Rattle.packets.specs.declared.command_refusal.CommandRefusal.{CommandRefusal}
+use Rattle.packets.specs.declared.command_refusal.CommandRefusal.TheVariants.{BadForm, NoAddresses, WrongDigits, PastTheEnd}
 use Rattle.packets.specs.Commands.{Asked, why_halted, read, write, registers, detach, supported, last_fault, unknown}
 use Rattle.packets.specs.Asking.{addresses, all_digits, judged, read_at, write_at, write_from, deep, deepened, begins, query, setting, by_itself, asked}
 use Rattle.packets.specs.Forms.{Span, Bytes, Named, named_why, named_read, named_write, named_registers, named_detach, named_thread, named_supported, named_depth, named_fault, Asks, asks_why, asks_read, asks_write, asks_registers, asks_detach, asks_thread, asks_supported, asks_depth, asks_fault, asks_other, Wrong, read_form, write_form, depth_form, read_none, write_none, write_digits, read_end, write_end}
 use Rattle.packets.proofs.Spans.{span_found, found_span, bytes_found, found_bytes}
 
 -- what an answer says of a payload
-abbrev pub Fits : List ℕ → Result Asked Refusal → Type 0
+abbrev pub Fits : List ℕ → Result Asked CommandRefusal → Type 0
 Fits payload answer = MatchResult answer (Asks payload) (Wrong payload)
 
 read_fits : (text : List ℕ) (w : Option (ℕ × ℕ)) → addresses text ≡ w → Fits (code "m" ∷ text) (read_at w)
@@ -70,7 +70,7 @@ by_test P false x y h k = k refl
 
 -- no payload that has a name is answered as one without
 
-abbrev IsKnown : Result Asked Refusal → Type 0
+abbrev IsKnown : Result Asked CommandRefusal → Type 0
 IsKnown answer = answer ≢ Ok unknown
 
 judged_known : (first count : ℕ) (fits : Bool) (a : Asked) → a ≢ unknown → judged first count fits a ≢ Ok unknown
@@ -124,10 +124,10 @@ deepened_fits text = by_test (Fits (codes "Qaisle.depth:" ++ text)) (length text
     step h None e = depth_form text (λ d t. let q = t.is in cc)
     step h (Some d) e = asks_depth text d (record { two = h; is = e })
 
-query_fits : (rest : List ℕ) → Fits (code "q" ∷ rest) (Ok (query (code "q" ∷ rest)))
-query_fits rest = by_test (Asks (code "q" ∷ rest)) (bytes_eq (code "q" ∷ rest) (codes "qaisle.fault")) last_fault _
+query_fits : (rest : List ℕ) → Fits (code "q" ∷ rest) (query (code "q" ∷ rest))
+query_fits rest = by_test (Fits (code "q" ∷ rest)) (bytes_eq (code "q" ∷ rest) (codes "qaisle.fault")) (Ok last_fault) _
     (λ e. rw ((bytes_eq-Decides (code "q" ∷ rest) (codes "qaisle.fault")).0 e) asks_fault)
-    (λ e. by_test (Asks (code "q" ∷ rest)) (begins (codes "qSupported") (code "q" ∷ rest)) supported unknown
+    (λ e. by_test (Fits (code "q" ∷ rest)) (begins (codes "qSupported") (code "q" ∷ rest)) (Ok supported) (Ok unknown)
     (λ f. subst (λ p. Asks p supported) (sym (begins_is (codes "qSupported") (code "q" ∷ rest) f)) (asks_supported (drop 10 (code "q" ∷ rest))))
     (λ f. nameless (code "q" ∷ rest) (rw (e, f) refl)))
 

@@ -3,8 +3,8 @@ use Rattle.std.proofs.Common.{◌≡◌, ℕ, ◌*◌, Bool, true, false, if◌t
 use Rattle.std.proofs.lemmas.Bool.Decides.{nat_tests}
 use Rattle.packets.specs.Digits.{spelled}
 use Rattle.packets.specs.Splits.{split_once}
-use Rattle.spaces.specs.declared.refusal.Refusal.{Refusal}
-use Rattle.spaces.specs.declared.refusal.Refusal.TheVariants.{BadForm}
+use Rattle.packets.specs.declared.command_refusal.CommandRefusal.{CommandRefusal}
+use Rattle.packets.specs.declared.command_refusal.CommandRefusal.TheVariants.{BadForm}
 use Rattle.packets.specs.Commands.{Asked, write, unknown}
 use Rattle.packets.specs.Asking.{addresses, all_digits, judged, read_at, write_at, write_from, deep, asked}
 use Rattle.packets.specs.Forms.{Named, named_why, named_read, named_write, named_registers, named_detach, named_thread, named_supported, named_depth, named_fault, Asks, asks_why, asks_read, asks_write, asks_registers, asks_detach, asks_thread, asks_supported, asks_depth, asks_fault, asks_other, Wrong, read_form, write_form, depth_form, read_none, write_none, write_digits, read_end, write_end, Parses}
@@ -25,7 +25,7 @@ asks_named payload a (asks_depth text d t) n = absurd (n (named_depth text))
 asks_named payload a asks_fault n = absurd (n named_fault)
 asks_named payload a (asks_other p m) n = refl
 
-wrong_named : (payload : List ℕ) (r : Refusal) → Wrong payload r → Named payload
+wrong_named : (payload : List ℕ) (r : CommandRefusal) → Wrong payload r → Named payload
 wrong_named payload r (read_form text n) = named_read text
 wrong_named payload r (write_form text n) = named_write text
 wrong_named payload r (depth_form text n) = named_depth text
@@ -35,7 +35,7 @@ wrong_named payload r (write_digits text first count digits b h n) = named_write
 wrong_named payload r (read_end text first count s h k) = named_read text
 wrong_named payload r (write_end text first count digits b h e k) = named_write text
 
-unnamed : (payload : List ℕ) (w : Result Asked Refusal) → Fits payload w → (Named payload → ⊥) → w ≡ Ok unknown
+unnamed : (payload : List ℕ) (w : Result Asked CommandRefusal) → Fits payload w → (Named payload → ⊥) → w ≡ Ok unknown
 unnamed payload (Ok a) f n = ap Ok (asks_named payload a f n)
 unnamed payload (Err r) f n = absurd (n (wrong_named payload r f))
 
@@ -51,7 +51,7 @@ asks_is payload a (asks_depth text d t) = rw (t.two, t.is) refl
 asks_is payload a asks_fault = refl
 asks_is payload a (asks_other p n) = unnamed payload (asked payload) (fits payload) n
 
-wrong_is : (payload : List ℕ) (r : Refusal) → Wrong payload r → asked payload ≡ Err r
+wrong_is : (payload : List ℕ) (r : CommandRefusal) → Wrong payload r → asked payload ≡ Err r
 wrong_is payload r (read_form text n) = step (addresses text) refl
   where
     step : (w : Option (ℕ × ℕ)) → addresses text ≡ w → read_at w ≡ Err BadForm

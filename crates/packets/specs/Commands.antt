@@ -1,5 +1,5 @@
 use Rattle.std.specs.Prelude.{ℕ, List, Ok, Err, Result}
-use Rattle.spaces.specs.declared.refusal.Refusal.{Refusal}
+use Rattle.packets.specs.declared.command_refusal.CommandRefusal.{CommandRefusal}
 use Rattle.packets.specs.declared.command.Command as declared
 use Rattle.packets.specs.declared.command.Command.TheVariants as is
 
@@ -24,6 +24,6 @@ meant is.LastFault = last_fault
 meant is.Unknown = unknown
 
 -- the same of a command or a refusal
-abbrev pub meant_by : Result declared.Command Refusal → Result Asked Refusal
+abbrev pub meant_by : Result declared.Command CommandRefusal → Result Asked CommandRefusal
 meant_by (Ok command) = Ok (meant command)
 meant_by (Err refusal) = Err refusal

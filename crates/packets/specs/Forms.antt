@@ -2,8 +2,8 @@ use Prim.Native.Char.{code}
 use Rattle.std.specs.Prelude.{◌≡◌, ◌≢◌, ℕ, ◌+◌, ◌*◌, ◌^◌, ◌<◌, ◌≤◌, List, ◌∷◌, ◌++◌, length, codes, Some, Ok, Err, Result, IsSome}
 use Rattle.std.specs.List.{AllByRecursion}
 use Rattle.std.specs.Result.{MatchResult}
-use Rattle.spaces.specs.declared.refusal.Refusal.{Refusal}
-use Rattle.spaces.specs.declared.refusal.Refusal.TheVariants.{BadForm, NoAddresses, WrongDigits, PastTheEnd}
+use Rattle.packets.specs.declared.command_refusal.CommandRefusal.{CommandRefusal}
+use Rattle.packets.specs.declared.command_refusal.CommandRefusal.TheVariants.{BadForm, NoAddresses, WrongDigits, PastTheEnd}
 use Rattle.packets.specs.Digits.{digit, number, spelled}
 use Rattle.packets.specs.Commands.{Asked, why_halted, read, write, registers, detach, thread, supported, depth, last_fault, unknown}
 
@@ -57,7 +57,7 @@ pub data Asks : List ℕ → Asked → Type 0 where
   asks_other : (payload : List ℕ) → (Named payload → ⊥) → Asks payload unknown
 
 -- Why a payload is refused. Each reason leaves out those with a smaller number, so that a payload has one at most.
-pub data Wrong : List ℕ → Refusal → Type 0 where
+pub data Wrong : List ℕ → CommandRefusal → Type 0 where
   read_form : (text : List ℕ) → ((first count : ℕ) → Span text first count → ⊥) → Wrong (code "m" ∷ text) BadForm
   write_form : (text : List ℕ) → ((first count : ℕ) (digits : List ℕ) → Bytes text first count digits → ⊥) → Wrong (code "M" ∷ text) BadForm
   depth_form : (text : List ℕ) → ((d : ℕ) → Depth text d → ⊥) → Wrong (codes "Qaisle.depth:" ++ text) BadForm
@@ -71,7 +71,7 @@ pub data Wrong : List ℕ → Refusal → Type 0 where
       → Wrong (code "M" ∷ text) PastTheEnd
 
 -- what the answer says of a payload, and that it is the only one that fits
-pub record Parses (payload : List ℕ) (answer : Result Asked Refusal) : Type 0 where
+pub record Parses (payload : List ℕ) (answer : Result Asked CommandRefusal) : Type 0 where
   pub fits : MatchResult answer (Asks payload) (Wrong payload)
   pub only_asked : (asked : Asked) → Asks payload asked → answer ≡ Ok asked
-  pub only_refused : (refusal : Refusal) → Wrong payload refusal → answer ≡ Err refusal
+  pub only_refused : (refusal : CommandRefusal) → Wrong payload refusal → answer ≡ Err refusal

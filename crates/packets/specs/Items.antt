@@ -1,7 +1,7 @@
 use Prim.Native.Char.{code}
 use Rattle.std.specs.Prelude.{ℕ, ◌+◌, List, length, Some, None, Option}
-use Rattle.spaces.specs.declared.refusal.Refusal.{Refusal}
-use Rattle.spaces.specs.declared.refusal.Refusal.TheVariants.{WrongSum, NoEnd}
+use Rattle.packets.specs.declared.frame_refusal.FrameRefusal.{FrameRefusal}
+use Rattle.packets.specs.declared.frame_refusal.FrameRefusal.TheVariants.{WrongSum, NoEnd}
 use Rattle.packets.specs.declared.item.Item as declared
 use Rattle.packets.specs.declared.item.Item.TheVariants as is
 
@@ -26,7 +26,7 @@ meant (is.Packet payload) = packet payload.now
 -- what there is to say of an item: how many bytes it uses, its refusal if it has one, the acknowledgment that is due if one is
 pub record Said : Type 0 where
   pub used : ℕ
-  pub refusal : Option Refusal
+  pub refusal : Option FrameRefusal
   pub due : Option ℕ
 
 abbrev pub said : Heard → Said

@@ -1,3 +1,4 @@
+pub mod Refusals
 pub mod Digits
 pub mod Splits
 pub mod Frames

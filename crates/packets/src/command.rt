@@ -4,7 +4,7 @@ ghost use Rattle.packets.specs.Asking.{asked};
 ghost use Rattle.packets.specs.Forms.{Parses};
 
 use crate::asking::{query, read, setting, write};
-use spaces::Refusal;
+use crate::command_refusal::CommandRefusal;
 
 // What a payload asks for.
 #[derive(Clone, Copy, Debug, PartialEq, Eq)]
@@ -32,7 +32,7 @@ pub enum Command<'a> {
 }
 
 // What a payload asks for, by its first character and then by its name.
-fn asked(payload: &[u8]) -> Result<Command<'_>, Refusal>
+fn asked(payload: &[u8]) -> Result<Command<'_>, CommandRefusal>
     ensures { meant_by result ≡ asked payload.now }
 {
     let Some((first, rest)) = payload.split_first() else {
@@ -45,7 +45,7 @@ fn asked(payload: &[u8]) -> Result<Command<'_>, Refusal>
         'g' if rest.is_empty() => Ok(Command::Registers),
         'D' if rest.is_empty() => Ok(Command::Detach),
         'H' => Ok(Command::Thread),
-        'q' => Ok(query(payload)),
+        'q' => query(payload),
         'Q' => setting(payload),
         _ => Ok(Command::Unknown),
     }
@@ -53,7 +53,7 @@ fn asked(payload: &[u8]) -> Result<Command<'_>, Refusal>
 
 impl<'a> Command<'a> {
     // What a payload asks for, or why it is refused.
-    pub fn parse(payload: &'a [u8]) -> Result<Command<'a>, Refusal>
+    pub fn parse(payload: &'a [u8]) -> Result<Command<'a>, CommandRefusal>
         ensures is { meant_by result ≡ asked payload.now }
         ensures in_words { Parses payload.now (meant_by result) }
     {

@@ -1,7 +1,7 @@
 ghost use Rattle.std.specs.Prelude.{◌≡◌};
 ghost use Rattle.packets.specs.Items.{meant, said};
 
-use spaces::Refusal;
+use crate::frame_refusal::FrameRefusal;
 
 // What is heard first in the bytes received.
 #[derive(Clone, Copy, Debug, PartialEq, Eq)]
@@ -34,12 +34,12 @@ impl Item<'_> {
     }
 
     // Why it is refused, if it is.
-    pub fn refusal(self) -> Option<Refusal>
+    pub fn refusal(self) -> Option<FrameRefusal>
         ensures { result ≡ (said (meant self.entry)).refusal }
     {
         match self {
-            Item::WrongSum { .. } => Some(Refusal::WrongSum),
-            Item::NoEnd => Some(Refusal::NoEnd),
+            Item::WrongSum { .. } => Some(FrameRefusal::WrongSum),
+            Item::NoEnd => Some(FrameRefusal::NoEnd),
             _ => None,
         }
     }

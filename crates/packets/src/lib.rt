@@ -3,7 +3,9 @@
 
 mod asking;
 mod command;
+mod command_refusal;
 pub mod digits;
+mod frame_refusal;
 mod framing;
 mod hearing;
 mod item;
@@ -11,6 +13,8 @@ mod laws;
 mod split;
 
 pub use command::Command;
+pub use command_refusal::CommandRefusal;
+pub use frame_refusal::FrameRefusal;
 pub use framing::{PAYLOAD, REPLY, frame};
 pub use hearing::hear;
 pub use item::Item;

@@ -1,7 +1,7 @@
 use Rattle.std.proofs.Common.{◌≡◌, ◌≢◌, ℕ, ◌*◌, ◌/◌, ◌%◌, List, length, Ok, Err, Result, refl, ◌∙◌, arith}
 use Rattle.std.specs.Simd.{first_chunks}
 use Rattle.std.proofs.lemmas.Bool.Decides.{nat_tests}
-use Rattle.spaces.specs.declared.refusal.Refusal.TheVariants.{BadLength, BadRecord}
+use Rattle.patchfiles.specs.declared.refusal.PatchFileRefusal.TheVariants.{BadLength, BadRecord}
 use Rattle.spaces.specs.Piles.{Pile}
 use Rattle.patchfiles.specs.declared.stopped.Stopped.{Stopped}
 use Rattle.patchfiles.specs.Runs.{Mark, Runs}

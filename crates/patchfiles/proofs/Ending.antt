@@ -3,12 +3,12 @@ use Rattle.std.specs.Prelude.{is_some, is_none, position}
 use Rattle.std.specs.Simd.{first_chunks}
 use borrow.Author.Count.{below_more}
 use Rattle.std.proofs.lemmas.Bool.{cases_eq}
-use Rattle.spaces.specs.declared.refusal.Refusal.{Refusal}
-use Rattle.spaces.specs.declared.refusal.Refusal.TheVariants.{BadRecord}
+use Rattle.spaces.specs.declared.refusal.EditRefusal.{EditRefusal}
 use Rattle.spaces.specs.Piles.{Pile}
-use Rattle.spaces.specs.Edits.{outcome, unless, edit_at}
+use Rattle.spaces.specs.Edits.{unless, edit_at}
+use Rattle.patchfiles.specs.declared.refusal.PatchFileRefusal.TheVariants as why
 use Rattle.patchfiles.specs.declared.stopped.Stopped.{Stopped}
-use Rattle.patchfiles.specs.Runs.{Mark, refused, marked, Makes}
+use Rattle.patchfiles.specs.Runs.{Mark, refused, marked, made, Makes}
 use Rattle.patchfiles.specs.Records.{mark_of}
 use Rattle.patchfiles.specs.Files.{marks_of, Applies}
 use Rattle.patchfiles.specs.Ends.{record_at, WellFormed, Leads, here, next, Ends, bad_length, bad_record, stops, goes_through, EveryPatchFileEndsInOneOfFourWays}
@@ -18,13 +18,13 @@ use Rattle.patchfiles.proofs.Answering.{bad_length_applies, fault_applies, run_a
 
 -- making a mark: it is accepted, or refused
 accepts : (o : Option Mark) (q : Pile) (m : Mark) → o ≡ Some m → refused q m ≡ None → Makes o q (marked q m) (Ok tt)
-accepts o q m e a = rw e (record { answer = sym (ap outcome a); pile = refl })
+accepts o q m e a = rw e (sym (ap made a), refl)
 
-refuses : (o : Option Mark) (q : Pile) (m : Mark) (refusal : Refusal) → o ≡ Some m → refused q m ≡ Some refusal → Makes o q q (Err refusal)
-refuses o q m refusal e a = rw e (record {
-  answer = sym (ap outcome a);
-  pile = sym (ap (λ (w : Option Refusal). record { layers = unless w q.layers (edit_at q.layers m.depth m.edit); base = q.base }) a);
-})
+refuses : (o : Option Mark) (q : Pile) (m : Mark) (refusal : EditRefusal) → o ≡ Some m → refused q m ≡ Some refusal → Makes o q q (Err (why.Edit refusal))
+refuses o q m refusal e a = rw e (
+  sym (ap made a),
+  sym (ap (λ (w : Option EditRefusal). record { layers = unless w q.layers (edit_at q.layers m.depth m.edit); base = q.base }) a),
+)
 
 module _ (file : List ℕ) (p : Pile) where
   -- one of the ways is taken
@@ -45,7 +45,7 @@ module _ (file : List ℕ) (p : Pile) where
     before : (k : ℕ) → k ≤ n → WellFormed file k → Before raws k
     before k h f j l = rw (record_is n j file (omega arith)) (f j l)
 
-    fault_applies_at : (k : ℕ) → k < n → WellFormed file k → mark_of (record_at file k) ≡ None → Applies p p file (Err (record { refusal = BadRecord; index = k }))
+    fault_applies_at : (k : ℕ) → k < n → WellFormed file k → mark_of (record_at file k) ≡ None → Applies p p file (Err (record { refusal = why.BadRecord; index = k }))
     fault_applies_at k h f e = fault_applies file p n raws whole refl k (record { inside = inside k h; malformed = rw (record_is n k file h) e; before = before k (omega arith) f })
 
     -- well-formed records run
@@ -58,10 +58,10 @@ module _ (file : List ℕ) (p : Pile) where
       underway k q (next {n = j} {q = w} {m = m} l b a) h =
           rw add-one at (underway_more raws read.0 p w (marked w m) j (underway j w l (omega arith)) (inside j (omega arith)) (accepts _ w m (rw (record_is n j file (omega arith)) b) a))
 
-      stop_applies : (k : ℕ) (q : Pile) (m : Mark) (refusal : Refusal) → k < n → Leads file p k q → mark_of (record_at file k) ≡ Some m → refused q m ≡ Some refusal
-          → Applies p q file (Err (record { refusal = refusal; index = k }))
+      stop_applies : (k : ℕ) (q : Pile) (m : Mark) (refusal : EditRefusal) → k < n → Leads file p k q → mark_of (record_at file k) ≡ Some m → refused q m ≡ Some refusal
+          → Applies p q file (Err (record { refusal = why.Edit refusal; index = k }))
       stop_applies k q m refusal h l b a = run_applies file p n raws whole refl q _ read.0 read.1
-          (runs_to_refusal raws read.0 p q q k (underway k q l (omega arith)) (inside k h) refusal (refuses _ q m refusal (rw (record_is n k file h) b) a))
+          (runs_to_refusal raws read.0 p q q k (underway k q l (omega arith)) (inside k h) (why.Edit refusal) (refuses _ q m refusal (rw (record_is n k file h) b) a))
 
       end_applies : (q : Pile) → Leads file p n q → Applies p q file (Ok n)
       end_applies q l = run_applies file p n raws whole refl q _ read.0 read.1
@@ -72,7 +72,7 @@ module _ (file : List ℕ) (p : Pile) where
       leads zero h = inr (p, here)
       leads (suc k) h = on (leads k (omega arith))
         where
-          by : (q : Pile) (m : Mark) → Leads file p k q → mark_of (record_at file k) ≡ Some m → (o : Option Refusal) → refused q m ≡ o → (Ended ⊎ ((w : Pile) × Leads file p (suc k) w))
+          by : (q : Pile) (m : Mark) → Leads file p k q → mark_of (record_at file k) ≡ Some m → (o : Option EditRefusal) → refused q m ≡ o → (Ended ⊎ ((w : Pile) × Leads file p (suc k) w))
           by q m l e None a = inr (marked q m, next l e a)
           by q m l e (Some refusal) a = inl (q, _, stops whole well h l e a)
 

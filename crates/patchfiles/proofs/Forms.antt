@@ -5,7 +5,7 @@ use Rattle.std.proofs.lemmas.Bool.Decides.{nat_tests}
 use Rattle.std.proofs.lemmas.List.{drop-drop}
 use Rattle.std.proofs.lemmas.List.Quantifiers.{position-Some}
 use Rattle.std.proofs.lemmas.List.Sums.{fails_before_first}
-use Rattle.spaces.specs.declared.refusal.Refusal.TheVariants.{BadRecord}
+use Rattle.patchfiles.specs.declared.refusal.PatchFileRefusal.TheVariants.{BadRecord}
 use Rattle.patchfiles.specs.declared.stopped.Stopped.{Stopped}
 use Rattle.patchfiles.specs.Runs.{Mark}
 use Rattle.patchfiles.specs.Records.{mark_of}

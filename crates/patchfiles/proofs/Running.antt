@@ -2,9 +2,8 @@ use Rattle.std.proofs.Common.{◌≡◌, ℕ, suc, ◌+◌, ◌<◌, ◌≤◌, 
 use Rattle.std.proofs.Math.ListN.{drop_of_length-le}
 use Rattle.std.proofs.Math.Seq.{drop-cons}
 use Rattle.std.proofs.lemmas.Grind.{common_steps}
-use Rattle.spaces.specs.declared.refusal.Refusal.{Refusal}
+use Rattle.patchfiles.specs.declared.refusal.PatchFileRefusal.{PatchFileRefusal}
 use Rattle.spaces.specs.Piles.{Pile}
-use Rattle.spaces.specs.Edits.{Edits, Outcome}
 use Rattle.patchfiles.specs.declared.stopped.Stopped.{Stopped}
 use Rattle.patchfiles.specs.Runs.{Mark, Makes, left_by, told_by, Runs}
 use Rattle.patchfiles.specs.Records.{mark_of}
@@ -12,11 +11,11 @@ use Rattle.patchfiles.specs.Files.{in_front, marks_of}
 
 -- One mark of a run: refused, it ends the run; accepted, the run goes on.
 module _ (m : Mark) (ms : List Mark) (n : ℕ) (p q : Pile) where
-  pub at_refused : (refusal : Refusal) → Edits p q m.depth m.edit (Err refusal)
+  pub at_refused : (refusal : PatchFileRefusal) → Makes (Some m) p q (Err refusal)
       → (told_by n (m ∷ ms) p ≡ Err (record { refusal = refusal; index = n })) × (left_by (m ∷ ms) p ≡ q)
   at_refused refusal e = grind (arith, common_steps)
 
-  pub at_accepted : Edits p q m.depth m.edit (Ok tt) → (told_by n (m ∷ ms) p ≡ told_by (suc n) ms q) × (left_by (m ∷ ms) p ≡ left_by ms q)
+  pub at_accepted : Makes (Some m) p q (Ok tt) → (told_by n (m ∷ ms) p ≡ told_by (suc n) ms q) × (left_by (m ∷ ms) p ≡ left_by ms q)
   at_accepted e = grind (arith, common_steps)
 
 -- A record before others: where all are well formed, its mark is the first.
@@ -50,8 +49,8 @@ module _ (records : List (List ℕ)) (marks : List Mark) (old now new : Pile) (i
     here : Splits (get_or records i []) (drop (suc i) records) i u.rest
     here = splits _ _ i u.rest (subst (λ (l : List (List ℕ)). marks_of i l ≡ Ok u.rest) (drop-cons records i [] inside) u.ahead)
 
-    edits : (r : Outcome) → Makes (mark_of (get_or records i [])) now new r → Edits now new here.first.depth here.first.edit r
-    edits r e = rw here.reads at e
+    makes : (r : Result (Unit {0}) PatchFileRefusal) → Makes (mark_of (get_or records i [])) now new r → Makes (Some here.first) now new r
+    makes r e = rw here.reads at e
 
     told_here : told_by 0 marks old ≡ told_by i (here.first ∷ here.rest) now
     told_here = u.answer ∙ ap (λ (ms : List Mark). told_by i ms now) here.is
@@ -60,7 +59,7 @@ module _ (records : List (List ℕ)) (marks : List Mark) (old now new : Pile) (i
     left_here = u.pile ∙ ap (λ (ms : List Mark). left_by ms now) here.is
 
     pub underway_more : Makes (mark_of (get_or records i [])) now new (Ok tt) → Underway records marks old new (i + 1)
-    underway_more e = let a = at_accepted here.first here.rest i now new (edits _ e) in rw add-one (record { rest = here.rest; ahead = here.ahead; answer = told_here ∙ a.0; pile = left_here ∙ a.1 })
+    underway_more e = let a = at_accepted here.first here.rest i now new (makes _ e) in rw add-one (record { rest = here.rest; ahead = here.ahead; answer = told_here ∙ a.0; pile = left_here ∙ a.1 })
 
-    pub runs_to_refusal : (refusal : Refusal) → Makes (mark_of (get_or records i [])) now new (Err refusal) → Runs marks old new (Err (record { refusal = refusal; index = i }))
-    runs_to_refusal refusal e = let a = at_refused here.first here.rest i now new refusal (edits _ e) in record { answer = sym (told_here ∙ a.0); pile = sym (left_here ∙ a.1) }
+    pub runs_to_refusal : (refusal : PatchFileRefusal) → Makes (mark_of (get_or records i [])) now new (Err refusal) → Runs marks old new (Err (record { refusal = refusal; index = i }))
+    runs_to_refusal refusal e = let a = at_refused here.first here.rest i now new refusal (makes _ e) in record { answer = sym (told_here ∙ a.0); pile = sym (left_here ∙ a.1) }

@@ -1,6 +1,6 @@
 use Rattle.std.specs.Prelude.{◌≡◌, ◌≢◌, ◌↔◌, ℕ, suc, ◌*◌, ◌%◌, ◌<◌, List, length, take, drop, IsSome, Some, None, Ok, Err, Result}
-use Rattle.spaces.specs.declared.refusal.Refusal.{Refusal}
-use Rattle.spaces.specs.declared.refusal.Refusal.TheVariants.{BadLength, BadRecord}
+use Rattle.spaces.specs.declared.refusal.EditRefusal.{EditRefusal}
+use Rattle.patchfiles.specs.declared.refusal.PatchFileRefusal.TheVariants as why
 use Rattle.spaces.specs.Piles.{Pile}
 use Rattle.patchfiles.specs.declared.stopped.Stopped.{Stopped}
 use Rattle.patchfiles.specs.Runs.{Mark, refused, marked}
@@ -24,11 +24,11 @@ pub data Leads (file : List ℕ) (p : Pile) : ℕ → Pile → Type 0 where
 -- The ways in which applying a file to a pile ends, each with what is answered and the pile that is left: its length is wrong; a
 -- record is malformed; of n well-formed records one is refused, and those before it took effect; all of them took effect.
 pub data Ends (file : List ℕ) (p : Pile) : Result ℕ Stopped → Pile → Type 0 where
-  bad_length : length file % 16 ≢ 0 → Ends file p (Err (record { refusal = BadLength; index = 0 })) p
+  bad_length : length file % 16 ≢ 0 → Ends file p (Err (record { refusal = why.BadLength; index = 0 })) p
   bad_record : {n k : ℕ} → length file ≡ 16 * n → k < n → WellFormed file k → mark_of (record_at file k) ≡ None
-      → Ends file p (Err (record { refusal = BadRecord; index = k })) p
-  stops : {n k : ℕ} {q : Pile} {m : Mark} {refusal : Refusal} → length file ≡ 16 * n → WellFormed file n → k < n → Leads file p k q
-      → mark_of (record_at file k) ≡ Some m → refused q m ≡ Some refusal → Ends file p (Err (record { refusal = refusal; index = k })) q
+      → Ends file p (Err (record { refusal = why.BadRecord; index = k })) p
+  stops : {n k : ℕ} {q : Pile} {m : Mark} {refusal : EditRefusal} → length file ≡ 16 * n → WellFormed file n → k < n → Leads file p k q
+      → mark_of (record_at file k) ≡ Some m → refused q m ≡ Some refusal → Ends file p (Err (record { refusal = why.Edit refusal; index = k })) q
   goes_through : {n : ℕ} {q : Pile} → length file ≡ 16 * n → Leads file p n q → Ends file p (Ok n) q
 
 -- what `apply` answers and leaves is one of these, and nothing else is

@@ -1,6 +1,6 @@
 use Rattle.std.specs.Prelude.{◌≡◌, ℕ, suc, ◌/◌, ◌%◌, if◌then◌else◌, List, [], ◌∷◌, length, Some, None, Ok, Err, Option, Result, ◌==◌}
 use Rattle.std.specs.Simd.{first_chunks}
-use Rattle.spaces.specs.declared.refusal.Refusal.TheVariants.{BadLength, BadRecord}
+use Rattle.patchfiles.specs.declared.refusal.PatchFileRefusal.TheVariants.{BadLength, BadRecord}
 use Rattle.spaces.specs.Piles.{Pile}
 use Rattle.patchfiles.specs.declared.stopped.Stopped.{Stopped}
 use Rattle.patchfiles.specs.Runs.{Mark, left_by, told_by}

@@ -1,3 +1,4 @@
+pub mod Refusals
 pub mod Runs
 pub mod Records
 pub mod Meant

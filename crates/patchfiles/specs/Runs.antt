@@ -1,8 +1,9 @@
 use Rattle.std.specs.Prelude.{◌≡◌, ℕ, suc, List, [], ◌∷◌, Some, None, Ok, Err, Option, Result}
-use Rattle.spaces.specs.declared.refusal.Refusal.{Refusal}
-use Rattle.spaces.specs.declared.refusal.Refusal.TheVariants.{BadRecord}
+use Rattle.spaces.specs.declared.refusal.EditRefusal.{EditRefusal}
 use Rattle.spaces.specs.Piles.{Pile}
-use Rattle.spaces.specs.Edits.{Edit, refusal, edited, unless, Outcome, Edits}
+use Rattle.spaces.specs.Edits.{Edit, refusal, edited, unless}
+use Rattle.patchfiles.specs.declared.refusal.PatchFileRefusal.{PatchFileRefusal}
+use Rattle.patchfiles.specs.declared.refusal.PatchFileRefusal.TheVariants as why
 use Rattle.patchfiles.specs.declared.stopped.Stopped.{Stopped}
 
 -- Edits of a pile, one behind the other.
@@ -13,16 +14,21 @@ pub record Mark : Type 0 where
   pub edit : Edit
 
 -- the refusal of a mark in a pile, and the pile after it
-abbrev pub refused : Pile → Mark → Option Refusal
+abbrev pub refused : Pile → Mark → Option EditRefusal
 refused p m = refusal p m.depth m.edit
 
 abbrev pub marked : Pile → Mark → Pile
 marked p m = edited p m.depth m.edit
 
+-- what making a mark answers
+abbrev pub made : Option EditRefusal → Result (Unit {0}) PatchFileRefusal
+made None = Ok tt
+made (Some refusal) = Err (why.Edit refusal)
+
 -- what making a mark answers and leaves; a malformed record has none
-abbrev pub Makes : Option Mark → Pile → Pile → Outcome → Type 0
-Makes None old new r = (r ≡ Err BadRecord) × (new ≡ old)
-Makes (Some m) old new r = Edits old new m.depth m.edit r
+abbrev pub Makes : Option Mark → Pile → Pile → Result (Unit {0}) PatchFileRefusal → Type 0
+Makes None old new r = (r ≡ Err why.BadRecord) × (new ≡ old)
+Makes (Some m) old new r = (r ≡ made (refused old m)) × (new ≡ marked old m)
 
 -- the pile after marks in order, of which the first refused one ends all
 abbrev pub left_by : List Mark → Pile → Pile
@@ -30,9 +36,9 @@ left_by [] p = p
 left_by (m ∷ ms) p = unless (refused p m) p (left_by ms (marked p m))
 
 -- how many marks there are, counted on from n, or the first refused, with its index
-abbrev pub counted : ℕ → Option Refusal → Result ℕ Stopped → Result ℕ Stopped
+abbrev pub counted : ℕ → Option EditRefusal → Result ℕ Stopped → Result ℕ Stopped
 counted n None rest = rest
-counted n (Some refusal) rest = Err (record { refusal = refusal; index = n })
+counted n (Some refusal) rest = Err (record { refusal = why.Edit refusal; index = n })
 
 abbrev pub told_by : ℕ → List Mark → Pile → Result ℕ Stopped
 told_by n [] p = Ok n

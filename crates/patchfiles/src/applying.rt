@@ -4,8 +4,9 @@ ghost use Rattle.patchfiles.specs.Records.{mark_of};
 ghost use Rattle.patchfiles.specs.Files.{marks_of, Applies};
 
 use crate::record::{RECORD, Record};
+use crate::refusal::PatchFileRefusal;
 use crate::stopped::Stopped;
-use spaces::{Refusal, Space};
+use spaces::Space;
 
 // The first record that is malformed.
 fn malformed(records: &[[u8; RECORD]]) -> Option<usize>
@@ -15,11 +16,12 @@ fn malformed(records: &[[u8; RECORD]]) -> Option<usize>
 }
 
 // Makes the edit of a record.
-fn make<S: Space>(space: &mut S, raw: &[u8; RECORD]) -> Result<(), Refusal>
+fn make<S: Space>(space: &mut S, raw: &[u8; RECORD]) -> Result<(), PatchFileRefusal>
     ensures { Makes (mark_of raw.now) (S.Space.meaning space.old) (S.Space.meaning space.new) result }
 {
-    let record = Record::parse(raw).ok_or(Refusal::BadRecord)?;
-    space.edit(record.depth, record.edit)
+    let record = Record::parse(raw).ok_or(PatchFileRefusal::BadRecord)?;
+    space.edit(record.depth, record.edit)?;
+    Ok(())
 }
 
 // Makes the edits of records in order, up to the first refused.
@@ -41,13 +43,13 @@ pub fn apply<S: Space>(space: &mut S, file: &[u8]) -> Result<usize, Stopped>
 {
     let (records, []) = file.as_chunks::<RECORD>() else {
         return Err(Stopped {
-            refusal: Refusal::BadLength,
+            refusal: PatchFileRefusal::BadLength,
             index: 0,
         });
     };
     if let Some(index) = malformed(records) {
         return Err(Stopped {
-            refusal: Refusal::BadRecord,
+            refusal: PatchFileRefusal::BadRecord,
             index,
         });
     }

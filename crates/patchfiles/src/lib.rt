@@ -4,9 +4,11 @@
 mod applying;
 mod laws;
 mod record;
+mod refusal;
 mod stopped;
 
 pub use applying::apply;
 pub use laws::every_patch_file_ends_in_one_of_four_ways;
 pub use record::{RECORD, Record};
+pub use refusal::PatchFileRefusal;
 pub use stopped::Stopped;

@@ -1,8 +1,8 @@
-use spaces::Refusal;
+use crate::refusal::PatchFileRefusal;
 
 // Why a patch file goes no further, and the record, counted from 0.
 #[derive(Clone, Copy, Debug, PartialEq, Eq)]
 pub struct Stopped {
-    pub refusal: Refusal,
+    pub refusal: PatchFileRefusal,
     pub index: usize,
 }

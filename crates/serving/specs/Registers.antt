@@ -1,6 +1,6 @@
 use Prim.Native.Char.{code}
 use Rattle.std.specs.Prelude.{◌≡◌, ◌≢◌, ℕ, Bool, true, false, if◌then◌else◌, List, ◌++◌, drop, replicate, codes, Ok, Err, Result}
-use Rattle.spaces.specs.declared.refusal.Refusal.{Refusal}
+use Rattle.packets.specs.declared.command_refusal.CommandRefusal.{CommandRefusal}
 use Rattle.packets.specs.Asking.{asked}
 use Rattle.packets.specs.Frames.{framed}
 use Rattle.packets.specs.Commands as commands
@@ -17,7 +17,7 @@ abbrev pub for_registers : Asked → Bool
 for_registers commands.registers = true
 for_registers other = false
 
-abbrev pub for_registers_by : Result Asked Refusal → Bool
+abbrev pub for_registers_by : Result Asked CommandRefusal → Bool
 for_registers_by (Ok asked) = for_registers asked
 for_registers_by (Err refusal) = false
 

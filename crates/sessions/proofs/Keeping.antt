@@ -1,7 +1,7 @@
 use Rattle.std.proofs.Common.{◌≡◌, ℕ, List, [], ◌∷◌, length, Some, None, Ok, Err, Option, Result, refl, sym, subst, ap, ◌∙◌, inl, inr, arith}
 use Rattle.std.proofs.lemmas.List.{length-map}
 use Rattle.spaces.specs.declared.fault.Fault.{Fault}
-use Rattle.spaces.specs.declared.refusal.Refusal.{Refusal}
+use Rattle.packets.specs.declared.command_refusal.CommandRefusal.{CommandRefusal}
 use Rattle.spaces.specs.Maps.{Map}
 use Rattle.spaces.specs.Piles.{Pile, Lawful, shown}
 use Rattle.spaces.specs.Reads.{Got, got}
@@ -98,7 +98,7 @@ reads m (heard received) f n = cc
 reads m (applied file outcome) f n = cc
 reads m (answered payload frame) f n = step (asked payload) refl n
   where
-    step : (a : Result Asked Refusal) → asked payload ≡ a → met_by m a ≡ Some f → Reads (answered payload frame)
+    step : (a : Result Asked CommandRefusal) → asked payload ≡ a → met_by m a ≡ Some f → Reads (answered payload frame)
     step (Ok (read first count)) q n = (payload, frame, first, count, refl, q)
     step (Ok (write first digits)) q n = cc
     step (Ok (depth d)) q n = cc

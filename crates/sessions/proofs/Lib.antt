@@ -10,3 +10,4 @@ pub mod Ending
 pub mod Underway
 pub mod Transcripts
 pub mod Deciding
+pub mod Smallest

@@ -1,5 +1,5 @@
 use Rattle.std.proofs.Common.{◌≡◌, ℕ, List, [], ◌∷◌, Some, None, Option, refl, ◌∙◌}
-use Rattle.spaces.specs.declared.refusal.Refusal.{Refusal}
+use Rattle.spaces.specs.declared.refusal.EditRefusal.{EditRefusal}
 use Rattle.spaces.specs.Piles.{Pile, Lawful}
 use Rattle.spaces.specs.Edits.{patch_at, unless, outcome}
 use Rattle.spaces.specs.EditLaws.{bare, Touches, PileEditLaws}
@@ -24,7 +24,7 @@ pub marks_kin : (p : Pile) (ms : List Mark) (q : Pile) → Kin p q → Kin p (le
 marks_kin p [] q k = k
 marks_kin p (m ∷ ms) q k = step (refused q m) (marks_kin p ms (marked q m) (one_kin p q m k))
   where
-    step : (o : Option Refusal) → Kin p (left_by ms (marked q m)) → Kin p (unless o q (left_by ms (marked q m)))
+    step : (o : Option EditRefusal) → Kin p (left_by ms (marked q m)) → Kin p (unless o q (left_by ms (marked q m)))
     step None ih = ih
     step (Some n) ih = k
 
@@ -48,7 +48,7 @@ module _ (j a : ℕ) where
       laws : PileEditLaws m.depth m.edit q (marked q m) (outcome (refused q m))
       laws = pile_edit_laws (record { pile = q; lawful = l }) m.depth m.edit
 
-      step : (o : Option Refusal) → refused q m ≡ o → (((r : Pile) (n : Mark) → Takes (marked q m) ms r n → Off r n) → Same (marked q m) (left_by ms (marked q m)))
+      step : (o : Option EditRefusal) → refused q m ≡ o → (((r : Pile) (n : Mark) → Takes (marked q m) ms r n → Off r n) → Same (marked q m) (left_by ms (marked q m)))
           → Same q (unless o q (left_by ms (marked q m)))
       step None e ih = kept_patch (record { pile = q; lawful = l }) m.depth m.edit j a (off q m (first e)) ∙ ih (λ r n t. off r n (later e t))
       step (Some n) e ih = refl

@@ -2,7 +2,7 @@ use Rattle.std.proofs.Common.{◌≡◌, ℕ, suc, ◌+◌, ◌<◌, ◌≤◌, 
 use Rattle.std.proofs.lemmas.Bool.{cases_lt}
 use Rattle.std.proofs.lemmas.List.{take_at, take_min}
 use Rattle.std.proofs.lemmas.Bool.Decides.{nat_tests}
-use Rattle.spaces.specs.declared.refusal.Refusal.{Refusal}
+use Rattle.spaces.specs.declared.refusal.EditRefusal.{EditRefusal}
 use Rattle.spaces.specs.Patches.{Patches, laid}
 use Rattle.spaces.specs.Piles.{Pile}
 use Rattle.spaces.specs.Edits.{setting, edit, judged, patches_at, refusal, edited, edit_at, unless, Outcome, outcome, Edits}
@@ -11,6 +11,7 @@ use Rattle.packets.specs.Digits.{paired, Places}
 use Rattle.packets.specs.Commands.{write}
 use Rattle.patchfiles.specs.Runs.{Mark, refused, marked, left_by}
 use Rattle.sessions.specs.States.{State}
+use Rattle.sessions.specs.declared.refusal.PayloadRefusal.TheVariants as why
 use Rattle.sessions.specs.Answers.{done, told, after_asked}
 
 -- Of many bytes 257 decide whether a set is refused.
@@ -47,7 +48,7 @@ cut p k first bytes e = elim (cases_lt (length bytes) 257) [
       record { refusals = same; piles = both_refused (refusal p k (setting first bytes)) (refused_long p k first bytes e (omega arith)) same refl }
 ]
   where
-    both_refused : (o : Option Refusal) → is_some o ≡ true → refusal p k (setting first (take 257 bytes)) ≡ o → refusal p k (setting first bytes) ≡ o
+    both_refused : (o : Option EditRefusal) → is_some o ≡ true → refusal p k (setting first (take 257 bytes)) ≡ o → refusal p k (setting first bytes) ≡ o
         → edited p k (setting first (take 257 bytes)) ≡ edited p k (setting first bytes)
     both_refused None t q r = cc
     both_refused (Some n) t q r = let same : unless (refusal p k (setting first (take 257 bytes))) p.layers (edit_at p.layers k (setting first (take 257 bytes))) ≡ unless (refusal p k (setting first bytes)) p.layers (edit_at p.layers k (setting first bytes)) = rw (q, r) refl in λ i. record { layers = same i; base = p.base }
@@ -56,7 +57,7 @@ cut p k first bytes e = elim (cases_lt (length bytes) 257) [
 marked_alone : (p : Pile) (m : Mark) → marked p m ≡ left_by (m ∷ []) p
 marked_alone p m = step (refused p m) refl
   where
-    step : (o : Option Refusal) → refused p m ≡ o → marked p m ≡ unless o p (marked p m)
+    step : (o : Option EditRefusal) → refused p m ≡ o → marked p m ≡ unless o p (marked p m)
     step None q = refl
     step (Some n) q = let same : unless (refused p m) p.layers (edit_at p.layers m.depth m.edit) ≡ p.layers = rw q refl in λ i. record { layers = same i; base = p.base }
 
@@ -66,8 +67,11 @@ module _ (s : State) (first : ℕ) (pairs xs : List ℕ) (q : Pile) (r : Outcome
   same : DoesTheSame s.pile s.depth first xs (paired pairs)
   same = rw few (cut s.pile s.depth first (paired pairs) end)
 
-  pub written_told : done r ≡ told s (write first pairs)
-  written_told = ap done (edits.answer ∙ ap outcome same.refusals)
+  pub written_told : (o : Option EditRefusal) → r ≡ outcome o → told s (write first pairs) ≡ done o
+  written_told o q = ap done (sym same.refusals ∙ by_answer _ o (sym edits.answer ∙ q))
+    where
+      by_answer : (a b : Option EditRefusal) → outcome a ≡ outcome b → a ≡ b
+      by_answer a b e = grind arith
 
   pub written_after : record { pile = q; depth = s.depth; last = s.last } ≡ after_asked s (Ok (write first pairs))
   written_after = let pile = edits.pile ∙ same.piles ∙ marked_alone s.pile (record { depth = s.depth; edit = setting first (paired pairs) }) in

@@ -1,9 +1,9 @@
 use Rattle.std.specs.Prelude.{ℕ, min, List, [], ◌∷◌, None, Ok, Err, Option, Result}
 use Rattle.spaces.specs.declared.fault.Fault.{Fault}
-use Rattle.spaces.specs.declared.refusal.Refusal.{Refusal}
 use Rattle.spaces.specs.Maps.{Map}
 use Rattle.spaces.specs.Reads.{got, span}
 use Rattle.spaces.specs.Edits.{setting}
+use Rattle.packets.specs.declared.command_refusal.CommandRefusal.{CommandRefusal}
 use Rattle.packets.specs.Digits.{paired}
 use Rattle.packets.specs.Commands.{Asked, read, write, depth}
 use Rattle.patchfiles.specs.Runs.{Mark}
@@ -33,14 +33,14 @@ met m (read first count) = (got m (asked_for first count)).fault
 met m other = None
 
 -- the same of a payload, by what it asks for
-abbrev pub written_by : ℕ → Result Asked Refusal → List Mark
+abbrev pub written_by : ℕ → Result Asked CommandRefusal → List Mark
 written_by d (Ok asked) = written d asked
 written_by d (Err refusal) = []
 
-abbrev pub deepened_by : ℕ → Result Asked Refusal → ℕ
+abbrev pub deepened_by : ℕ → Result Asked CommandRefusal → ℕ
 deepened_by d (Ok asked) = deepened d asked
 deepened_by d (Err refusal) = d
 
-abbrev pub met_by : Map → Result Asked Refusal → Option Fault
+abbrev pub met_by : Map → Result Asked CommandRefusal → Option Fault
 met_by m (Ok asked) = met m asked
 met_by m (Err refusal) = None

@@ -1,3 +1,4 @@
+pub mod Refusals
 pub mod States
 pub mod Effects
 pub mod Answers
@@ -9,3 +10,4 @@ pub mod Sessions
 pub mod Texts
 pub mod Replays
 pub mod Laws
+pub mod Smallest

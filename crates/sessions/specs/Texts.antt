@@ -1,8 +1,10 @@
-use Rattle.std.specs.Prelude.{◌≡◌, ℕ, ◌+◌, ◌≤◌, List, take, length, Ok}
+use Rattle.std.specs.Prelude.{◌≡◌, ℕ, ◌+◌, ◌≤◌, List, take, length, Ok, Err, IsOk, Result, MatchResult}
+use Rattle.packets.specs.Asking.{asked}
 use Rattle.packets.specs.Commands.{Asked, read, write}
 use Rattle.packets.specs.Digits.{paired}
+use Rattle.sessions.specs.declared.refusal.PayloadRefusal.{PayloadRefusal}
 use Rattle.sessions.specs.States.{State}
-use Rattle.sessions.specs.Answers.{told, after_asked}
+use Rattle.sessions.specs.Answers.{told, told_by, text_of, after_asked, after}
 
 -- a buffer for the longest text begins with this text
 pub record Begins (words buffer : List ℕ) (n : ℕ) : Type 0 where
@@ -10,10 +12,19 @@ pub record Begins (words buffer : List ℕ) (n : ℕ) : Type 0 where
   pub fits : n ≤ 4096
   pub front : take n buffer ≡ words
 
--- it begins with the reply to a command, and the session is as after it
-pub record Says (s : State) (asked : Asked) (t : State) (buffer : List ℕ) (n : ℕ) : Type 0 where
-  pub text : Begins (told s asked) buffer n
+-- it begins with what is told, or that is a refusal
+abbrev pub BeginsOr : Result (List ℕ) PayloadRefusal → List ℕ → Result ℕ PayloadRefusal → Type 0
+BeginsOr told buffer r = MatchResult r (λ n. IsOk told × Begins (text_of told) buffer n) (λ refusal. told ≡ Err refusal)
+
+-- what a command asks for is done: the buffer begins with the reply, or the command is refused, and the session is as after it
+pub record CarriesOut (s : State) (asked : Asked) (t : State) (buffer : List ℕ) (r : Result ℕ PayloadRefusal) : Type 0 where
+  pub text : BeginsOr (told s asked) buffer r
   pub session : t ≡ after_asked s (Ok asked)
+
+-- the same of a payload
+pub record Replies (s : State) (payload : List ℕ) (t : State) (buffer : List ℕ) (r : Result ℕ PayloadRefusal) : Type 0 where
+  pub text : BeginsOr (told_by s (asked payload)) buffer r
+  pub session : t ≡ after s payload
 
 -- the address behind the last one that a command is for
 abbrev pub end_of : Asked → ℕ

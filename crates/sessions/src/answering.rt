@@ -1,16 +1,18 @@
 // What a session replies to a payload.
 
-ghost use Rattle.std.specs.Prelude.{◌+◌, ◌≤◌, ◌^◌, length};
+ghost use Rattle.std.specs.Prelude.{◌+◌, ◌≤◌, ◌^◌, length, Ok};
 ghost use Rattle.packets.specs.Digits.{paired};
 ghost use Rattle.packets.specs.Commands.{read, write, meant};
 ghost use Rattle.sessions.specs.Answers.{Answers};
 ghost use Rattle.sessions.specs.Sessions.{state};
-ghost use Rattle.sessions.specs.Texts.{Says, end_of};
+ghost use Rattle.sessions.specs.Texts.{CarriesOut, Replies, end_of};
 
+use crate::refusal::PayloadRefusal;
 use crate::session::Session;
-use crate::texts::{fail, say, say_bytes, say_fault, say_outcome};
+use crate::texts::{fail, say, say_bytes, say_fault};
+use numbers::Numbered;
 use packets::{Command, PAYLOAD, REPLY, digits, frame};
-use spaces::{Numbered, Space};
+use spaces::Space;
 
 // How many bytes a read gets at most.
 const READ: usize = 2_048;
@@ -24,7 +26,7 @@ pub const REGISTERS: usize = 328;
 impl<S: Space> Session<S> {
     fn read(&mut self, first: u64, count: u64, text: &mut [u8; PAYLOAD]) -> usize
         requires { first + count ≤ 2 ^ 64 }
-        ensures { Says (state S.Space.meaning self.old) (read first count) (state S.Space.meaning self.new) text.new result }
+        ensures { CarriesOut (state S.Space.meaning self.old) (read first count) (state S.Space.meaning self.new) text.new (Ok result) }
     {
         let mut bytes = [0; READ];
         let room = count.min(READ as u64) as usize;
@@ -33,24 +35,34 @@ impl<S: Space> Session<S> {
         say_bytes(&bytes[..got], fault, text)
     }
 
-    fn write(&mut self, first: u64, pairs: &[u8], text: &mut [u8; PAYLOAD]) -> usize
+    fn write(
+        &mut self,
+        first: u64,
+        pairs: &[u8],
+        text: &mut [u8; PAYLOAD],
+    ) -> Result<usize, PayloadRefusal>
         requires { first + length (paired pairs.now) ≤ 2 ^ 64 }
-        ensures { Says (state S.Space.meaning self.old) (write first pairs.now) (state S.Space.meaning self.new) text.new result }
+        ensures { CarriesOut (state S.Space.meaning self.old) (write first pairs.now) (state S.Space.meaning self.new) text.new result }
     {
         let mut bytes = [0; WRITE];
         let count = digits::bytes(pairs, &mut bytes);
-        say_outcome(self.space.set(self.depth, first, &bytes[..count]), text)
+        self.space.set(self.depth, first, &bytes[..count])?;
+        Ok(say(b"OK", text))
     }
 
     // Does what a command asks for, and writes the text of the reply.
-    fn carry_out(&mut self, command: Command<'_>, text: &mut [u8; PAYLOAD]) -> usize
+    fn carry_out(
+        &mut self,
+        command: Command<'_>,
+        text: &mut [u8; PAYLOAD],
+    ) -> Result<usize, PayloadRefusal>
         requires { end_of (meant command) ≤ 2 ^ 64 }
-        ensures { Says (state S.Space.meaning self.old) (meant command.entry) (state S.Space.meaning self.new) text.new result }
+        ensures { CarriesOut (state S.Space.meaning self.old) (meant command.entry) (state S.Space.meaning self.new) text.new result }
     {
-        match command {
+        Ok(match command {
             Command::WhyHalted => say(b"S05", text),
             Command::Read { first, count } => self.read(first, count, text),
-            Command::Write { first, digits } => self.write(first, digits, text),
+            Command::Write { first, digits } => self.write(first, digits, text)?,
             Command::Registers => say(&[b'x'; REGISTERS], text),
             Command::Detach | Command::Thread => say(b"OK", text),
             Command::Supported => say(b"PacketSize=1000", text),
@@ -60,7 +72,19 @@ impl<S: Space> Session<S> {
             }
             Command::LastFault => say_fault(self.last, text),
             Command::Unknown => say(b"", text),
-        }
+        })
+    }
+
+    // Does what a payload asks for, and writes the text of the reply, unless the payload is refused.
+    fn reply(
+        &mut self,
+        payload: &[u8],
+        text: &mut [u8; PAYLOAD],
+    ) -> Result<usize, PayloadRefusal>
+        ensures { Replies (state S.Space.meaning self.old) payload.now (state S.Space.meaning self.new) text.new result }
+    {
+        let command = Command::parse(payload)?;
+        self.carry_out(command, text)
     }
 
     // Answers a payload, refused or not.
@@ -68,8 +92,8 @@ impl<S: Space> Session<S> {
         ensures { Answers (state S.Space.meaning self.old) payload.now reply.old reply.new result (state S.Space.meaning self.new) }
     {
         let mut text = [0; PAYLOAD];
-        let count = match Command::parse(payload) {
-            Ok(command) => self.carry_out(command, &mut text),
+        let count = match self.reply(payload, &mut text) {
+            Ok(count) => count,
             Err(refusal) => fail(refusal.number(), &mut text),
         };
         frame(&text[..count], reply).unwrap_or(0)

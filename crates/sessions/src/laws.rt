@@ -1,3 +1,4 @@
+ghost use Rattle.sessions.specs.Smallest.{RefusedByTheSmallest};
 ghost use Rattle.sessions.specs.Laws.{WhatIsKeptLeavesNothingOpen, EveryLastFaultArose, EveryWriteOffTheTrailKeepsTheRead, NothingRefusedTakesEffect};
 
 // What follows from what a session keeps, and from nothing else. There is nothing to run: each contract is a theorem.
@@ -20,4 +21,9 @@ pub fn every_write_off_the_trail_keeps_the_read()
 // What counts as a change of the pile was accepted: a refused edit is none.
 pub fn nothing_refused_takes_effect()
     ensures { NothingRefusedTakesEffect }
+{}
+
+// A payload is refused with the smallest number that applies, by its form or by the pile; and where none applies it is done.
+pub fn every_payload_is_refused_by_the_smallest()
+    ensures { RefusedByTheSmallest }
 {}

@@ -1,11 +1,11 @@
 // The texts of replies, each in front of a buffer that fits the longest.
 
 ghost use Rattle.std.specs.Prelude.{◌≤◌, length};
-ghost use Rattle.sessions.specs.Answers.{failed, done, spoken, fault_reply};
+ghost use Rattle.sessions.specs.Answers.{failed, spoken, fault_reply};
 ghost use Rattle.sessions.specs.Texts.{Begins};
 
 use packets::{PAYLOAD, digits};
-use spaces::{Fault, Numbered, Refusal};
+use spaces::Fault;
 
 pub(crate) fn say(words: &[u8], text: &mut [u8; PAYLOAD]) -> usize
     requires { length words.now ≤ 4096 }
@@ -21,16 +21,6 @@ pub(crate) fn fail(number: u8, text: &mut [u8; PAYLOAD]) -> usize
 {
     let [high, low] = digits::of::<2>(number as u64);
     say(&[b'E', high, low], text)
-}
-
-// `OK`, or `E` and a refusal's number.
-pub(crate) fn say_outcome(outcome: Result<(), Refusal>, text: &mut [u8; PAYLOAD]) -> usize
-    ensures { Begins (done outcome) text.new result }
-{
-    match outcome {
-        Ok(()) => say(b"OK", text),
-        Err(refusal) => fail(refusal.number(), text),
-    }
 }
 
 // The bytes of a read, or the cause why its very first address has none.

@@ -1,6 +1,6 @@
 use Rattle.std.specs.Prelude.{◌≡◌, ℕ, ◌+◌, ◌^◌, ◌<◌, ◌≤◌, true, ◌⊎◌, [], map, length, is_some, Some, None, Ok, Err, Option, ◌≢◌, slice_index}
-use Rattle.spaces.specs.declared.refusal.Refusal.{Refusal}
-use Rattle.spaces.specs.declared.refusal.Refusal.TheVariants.{PastTheEnd, NoOverlay, TooManyPatches}
+use Rattle.spaces.specs.declared.refusal.EditRefusal.{EditRefusal}
+use Rattle.spaces.specs.declared.refusal.EditRefusal.TheVariants.{PastTheEnd, NoOverlay, TooManyPatches}
 use Rattle.spaces.specs.Patches.{Patches, lookup}
 use Rattle.spaces.specs.Piles.{Layer, plain, overlay, Pile, Lawful, LawfulPile}
 use Rattle.spaces.specs.Edits.{Edit, setting, clearing, first_of, count_of, patches_at, refusal, edited, Outcome, outcome}
@@ -64,7 +64,7 @@ pub record Weighed (e : Edit) (old : Patching) (r : Outcome) : Type 0 where
 pub record EditLaws (e : Edit) (old new : Patches) (r : Outcome) : Type 0 where
   pub accepted : r ≡ Ok tt → Changes e (lookup old) (lookup new)
   pub touched : r ≡ Ok tt → (a : ℕ) → Touches e (lookup old) a → Touched e (lookup old) (lookup new) a
-  pub refused : (n : Refusal) → r ≡ Err n → new ≡ old
+  pub refused : (n : EditRefusal) → r ≡ Err n → new ≡ old
   pub empty : count_of e ≡ 0 → new ≡ old
   pub past : 2 ^ 64 < first_of e + count_of e → r ≡ Err PastTheEnd
   pub weighed : first_of e + count_of e ≤ 2 ^ 64 → Weighed e (lookup old) r

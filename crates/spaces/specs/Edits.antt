@@ -1,6 +1,6 @@
 use Rattle.std.specs.Prelude.{◌≡◌, ℕ, zero, suc, ◌+◌, ◌^◌, cond, List, [], ◌∷◌, length, Some, None, Ok, Err, Option, Result, nat_lt}
-use Rattle.spaces.specs.declared.refusal.Refusal.{Refusal}
-use Rattle.spaces.specs.declared.refusal.Refusal.TheVariants.{PastTheEnd, NoOverlay, TooManyPatches}
+use Rattle.spaces.specs.declared.refusal.EditRefusal.{EditRefusal}
+use Rattle.spaces.specs.declared.refusal.EditRefusal.TheVariants.{PastTheEnd, NoOverlay, TooManyPatches}
 use Rattle.spaces.specs.Patches.{Patches, lookup, replaced}
 use Rattle.spaces.specs.Rules.{Rule}
 use Rattle.spaces.specs.Piles.{Layer, plain, overlay, Pile, on}
@@ -45,20 +45,20 @@ abbrev pub patch_at : Pile → ℕ → ℕ → Option ℕ
 patch_at p k a = patch_in (patches_at p.layers k) a
 
 -- the refusal of an edit at what stands there: the first that applies of an end above 2 ^ 64 - 1, no overlay, and more than 256 patches afterwards
-abbrev pub crowded : Patches → Option Refusal
+abbrev pub crowded : Patches → Option EditRefusal
 crowded ps = cond (nat_lt 256 (length ps)) (Some TooManyPatches) None
 
-abbrev pub crowding : Option Patches → Edit → Option Refusal
+abbrev pub crowding : Option Patches → Edit → Option EditRefusal
 crowding None e = Some NoOverlay
 crowding (Some ps) e = crowded (edit e ps)
 
-abbrev pub ending : ℕ → Option Refusal → Option Refusal
+abbrev pub ending : ℕ → Option EditRefusal → Option EditRefusal
 ending end o = cond (nat_lt (2 ^ 64) end) (Some PastTheEnd) o
 
-abbrev pub judged : Option Patches → Edit → Option Refusal
+abbrev pub judged : Option Patches → Edit → Option EditRefusal
 judged o e = ending (first_of e + count_of e) (crowding o e)
 
-abbrev pub refusal : Pile → ℕ → Edit → Option Refusal
+abbrev pub refusal : Pile → ℕ → Edit → Option EditRefusal
 refusal p k e = judged (patches_at p.layers k) e
 
 -- the layers after an accepted edit
@@ -72,7 +72,7 @@ edit_at (l ∷ ls) zero e = edit_layer e l ∷ ls
 edit_at (l ∷ ls) (suc k) e = l ∷ edit_at ls k e
 
 -- a refused edit changes nothing
-abbrev pub unless : {X : Type 0} → Option Refusal → X → X → X
+abbrev pub unless : {X : Type 0} → Option EditRefusal → X → X → X
 unless None old new = new
 unless (Some n) old new = old
 
@@ -82,9 +82,9 @@ edited p k e = record { layers = unless (refusal p k e) p.layers (edit_at p.laye
 
 -- done, or refused
 abbrev pub Outcome : Type 0
-Outcome = Result (Unit {0}) Refusal
+Outcome = Result (Unit {0}) EditRefusal
 
-abbrev pub outcome : Option Refusal → Outcome
+abbrev pub outcome : Option EditRefusal → Outcome
 outcome None = Ok tt
 outcome (Some n) = Err n
 

@@ -1,4 +1,4 @@
-pub mod Numbers
+pub mod Refusals
 pub mod Texts
 pub mod Maps
 pub mod Reads

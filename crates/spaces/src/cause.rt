@@ -1,22 +1,15 @@
-ghost use Rattle.spaces.specs.Numbers.{cause_number};
+ghost use Rattle.std.specs.Prelude.{◌≡◌};
+ghost use Rattle.spaces.specs.Maps.{own};
 
-use crate::number::{FaultCause, Numbered};
+use crate::fault::Fault;
+use numbers::Numbered;
 
-// Why an image has no byte at an address, each with its number. Other spaces have causes of their own.
-#[derive(Clone, Copy, Debug, PartialEq, Eq)]
-pub enum Cause {
-    // No extent contains the address.
-    NoExtent = 0x01,
-    // An extent contains it, and the file does not have its byte.
-    NotStored = 0x02,
-}
-
-impl Numbered for Cause {
-    ghost number = { cause_number };
-
-    fn number(self) -> u8 {
-        self as u8
+// A kind of cause that an address may have no byte.
+pub trait FaultCause: Numbered {
+    // The fault of a space of which it is the cause at an address.
+    final fn at(self, address: u64) -> Fault
+        ensures { result ≡ own address (Self.number self) }
+    {
+        Fault::own(address, self.number())
     }
 }
-
-impl FaultCause for Cause {}

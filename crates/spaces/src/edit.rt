@@ -2,7 +2,7 @@ ghost use Rattle.std.specs.Prelude.{◌≡◌, ◌+◌, None};
 ghost use Rattle.spaces.specs.Edits.{first_of, count_of, bytes_of, ending, outcome};
 ghost use Rattle.spaces.specs.Meant.{meant};
 
-use crate::refusal::Refusal;
+use crate::refusal::EditRefusal;
 
 // A change of one overlay.
 #[derive(Clone, Copy, Debug, PartialEq, Eq)]
@@ -33,11 +33,11 @@ impl<'a> Edit<'a> {
     }
 
     // Refused where an address would be above 2^64 - 1.
-    pub fn within(self) -> Result<(), Refusal>
+    pub fn within(self) -> Result<(), EditRefusal>
         ensures { result ≡ outcome (ending (first_of (meant self.entry) + count_of (meant self.entry)) None) }
     {
         if self.end() > 1 << 64 {
-            return Err(Refusal::PastTheEnd);
+            return Err(EditRefusal::PastTheEnd);
         }
         Ok(())
     }

@@ -5,7 +5,6 @@ mod cause;
 mod edit;
 mod fault;
 mod laws;
-mod number;
 mod origin;
 mod patch;
 mod refusal;
@@ -15,7 +14,7 @@ mod space;
 mod under;
 mod watch;
 
-pub use cause::Cause;
+pub use cause::FaultCause;
 pub use edit::Edit;
 pub use fault::Fault;
 pub use laws::{
@@ -23,10 +22,9 @@ pub use laws::{
     every_fault_arose_where_it_says, every_overlay_shows_its_patches,
     every_read_rests_on_its_trail, every_walk_is_lawful,
 };
-pub use number::{FaultCause, Numbered};
 pub use origin::locate;
 pub use patch::Patch;
-pub use refusal::Refusal;
+pub use refusal::EditRefusal;
 pub use rise::{climb, fill_below};
 pub use room::most;
 pub use space::Space;

@@ -6,7 +6,7 @@ ghost use Rattle.spaces.specs.Meant.{meant};
 
 use crate::edit::Edit;
 use crate::fault::Fault;
-use crate::refusal::Refusal;
+use crate::refusal::EditRefusal;
 
 // A pile that can be read, and patched where it has overlays.
 pub trait Space {
@@ -34,18 +34,18 @@ pub trait Space {
     }
 
     // Changes the overlay at a depth.
-    fn edit(&mut self, depth: u8, edit: Edit<'_>) -> Result<(), Refusal>
+    fn edit(&mut self, depth: u8, edit: Edit<'_>) -> Result<(), EditRefusal>
         ensures { Edits (meaning self.old) (meaning self.new) depth (meant edit.entry) result };
 
     // Patches consecutive addresses in the overlay at a depth.
-    fn set(&mut self, depth: u8, first: u64, bytes: &[u8]) -> Result<(), Refusal>
+    fn set(&mut self, depth: u8, first: u64, bytes: &[u8]) -> Result<(), EditRefusal>
         ensures { Edits (meaning self.old) (meaning self.new) depth (setting first bytes.now) result }
     {
         self.edit(depth, Edit::Set { first, bytes })
     }
 
     // Takes back the patches among some addresses in the overlay at a depth.
-    fn clear(&mut self, depth: u8, first: u64, count: u64) -> Result<(), Refusal>
+    fn clear(&mut self, depth: u8, first: u64, count: u64) -> Result<(), EditRefusal>
         ensures { Edits (meaning self.old) (meaning self.new) depth (clearing first count) result }
     {
         self.edit(depth, Edit::Clear { first, count })

@@ -2,14 +2,14 @@ ghost use Rattle.spaces.specs.Edits.{setting};
 ghost use Rattle.spaces.specs.CallLaws.{Watches};
 
 use crate::fault::Fault;
-use crate::refusal::Refusal;
+use crate::refusal::EditRefusal;
 use crate::space::Space;
 
 // What a set answered, and what one address had before and after it.
 #[derive(Clone, Copy, Debug, PartialEq, Eq)]
 pub struct Watched {
     pub before: Result<u8, Fault>,
-    pub outcome: Result<(), Refusal>,
+    pub outcome: Result<(), EditRefusal>,
     pub after: Result<u8, Fault>,
 }
 

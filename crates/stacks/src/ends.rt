@@ -1,6 +1,6 @@
 use outsiders::Ramp;
 use overlays::Overlay;
-use spaces::{Fault, Refusal, Space};
+use spaces::{Fault, EditRefusal, Space};
 
 const LAST: u64 = u64::MAX;
 
@@ -14,7 +14,7 @@ fn a_set_may_end_at_the_last_address(rt: HostRuntime) {
     assert_eq!(rt; space.set(0, LAST - 1, b"xy"), Ok(()));
     assert_eq!(rt; space.byte(LAST - 1), Ok(b'x'));
     assert_eq!(rt; space.byte(LAST), Ok(b'y'));
-    assert_eq!(rt; space.set(0, LAST, b"yz"), Err(Refusal::PastTheEnd));
+    assert_eq!(rt; space.set(0, LAST, b"yz"), Err(EditRefusal::PastTheEnd));
     assert_eq!(rt; space.byte(LAST), Ok(b'y'));
     let mut out = *b"....";
     let (count, fault) = space.fill(LAST - 1, &mut out);
@@ -28,7 +28,7 @@ fn a_clear_may_end_at_the_last_address(rt: HostRuntime) {
     let mut space = short();
     assert_eq!(rt; space.set(0, LAST, b"y"), Ok(()));
     assert_eq!(rt; space.set(0, 0, b"x"), Ok(()));
-    assert_eq!(rt; space.clear(0, 2, LAST), Err(Refusal::PastTheEnd));
+    assert_eq!(rt; space.clear(0, 2, LAST), Err(EditRefusal::PastTheEnd));
     assert_eq!(rt; space.byte(LAST), Ok(b'y'));
     assert_eq!(rt; space.clear(0, 0, LAST), Ok(()));
     assert_eq!(rt; space.byte(LAST), Ok(b'y'));
@@ -46,12 +46,12 @@ fn a_clear_may_end_at_the_last_address(rt: HostRuntime) {
 fn the_first_refusal_counts(rt: HostRuntime) {
     let mut space = short();
     let many = [0; 257];
-    assert_eq!(rt; space.set(7, LAST - 1, &many), Err(Refusal::PastTheEnd));
-    assert_eq!(rt; space.set(0, LAST - 1, &many), Err(Refusal::PastTheEnd));
-    assert_eq!(rt; space.set(1, 0, &many), Err(Refusal::NoOverlay));
-    assert_eq!(rt; space.set(255, 0, b"x"), Err(Refusal::NoOverlay));
-    assert_eq!(rt; space.set(0, 0, &many), Err(Refusal::TooManyPatches));
-    assert_eq!(rt; space.clear(1, 0, 9), Err(Refusal::NoOverlay));
+    assert_eq!(rt; space.set(7, LAST - 1, &many), Err(EditRefusal::PastTheEnd));
+    assert_eq!(rt; space.set(0, LAST - 1, &many), Err(EditRefusal::PastTheEnd));
+    assert_eq!(rt; space.set(1, 0, &many), Err(EditRefusal::NoOverlay));
+    assert_eq!(rt; space.set(255, 0, b"x"), Err(EditRefusal::NoOverlay));
+    assert_eq!(rt; space.set(0, 0, &many), Err(EditRefusal::TooManyPatches));
+    assert_eq!(rt; space.clear(1, 0, 9), Err(EditRefusal::NoOverlay));
     assert_eq!(rt; space.byte(0), Ok(0));
 }
 
@@ -62,8 +62,8 @@ fn an_empty_one_changes_nothing(rt: HostRuntime) {
     assert_eq!(rt; space.set(0, 1, b""), Ok(()));
     assert_eq!(rt; space.clear(0, 1, 0), Ok(()));
     assert_eq!(rt; space.set(0, LAST, b""), Ok(()));
-    assert_eq!(rt; space.set(1, 1, b""), Err(Refusal::NoOverlay));
-    assert_eq!(rt; space.clear(1, 1, 0), Err(Refusal::NoOverlay));
+    assert_eq!(rt; space.set(1, 1, b""), Err(EditRefusal::NoOverlay));
+    assert_eq!(rt; space.clear(1, 1, 0), Err(EditRefusal::NoOverlay));
     assert_eq!(rt; space.byte(0), Ok(0));
     assert_eq!(rt; space.byte(1), Ok(b'x'));
 }

@@ -1,6 +1,6 @@
 use outsiders::{Ramp, Spare, Window, byte_in_window, patch_under_window};
 use overlays::Overlay;
-use spaces::{Fault, Refusal, Space, locate, watched_set};
+use spaces::{Fault, EditRefusal, Space, locate, watched_set};
 
 // From the top: overlay, spare copy 8 places on, overlay, window on addresses 4 to 19, overlay, sixteen bytes that count up.
 fn pile() -> Overlay<Spare<Overlay<Window<Overlay<Ramp>>>>> {
@@ -63,7 +63,7 @@ fn a_patch_off_the_trail_does_not(rt: HostRuntime) {
     assert_eq!(rt; under.outcome, Ok(()));
     assert_eq!(rt; under.after, Ok(b'M'));
     let refused = watched_set(&mut space, 3, 0, b"W", 0);
-    assert_eq!(rt; refused.outcome, Err(Refusal::NoOverlay));
+    assert_eq!(rt; refused.outcome, Err(EditRefusal::NoOverlay));
     assert_eq!(rt; refused.after, refused.before);
 }
 

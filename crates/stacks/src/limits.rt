@@ -1,10 +1,10 @@
 use outsiders::Ramp;
 use overlays::{Overlay, PatchTable};
-use spaces::{Refusal, Space};
+use spaces::{EditRefusal, Space};
 use std::test::Fail;
 
 // An overlay over bytes that count up from 0 to 0xff, with the first of them patched to 7.
-fn patched(count: usize) -> Result<Overlay<Ramp>, Refusal> {
+fn patched(count: usize) -> Result<Overlay<Ramp>, EditRefusal> {
     let mut space = Overlay::new(Ramp { length: 0x200 });
     let sevens = [7; 256];
     space.set(0, 0, &sevens[..count.min(256)])?;
@@ -14,10 +14,10 @@ fn patched(count: usize) -> Result<Overlay<Ramp>, Refusal> {
 #[test]
 fn at_256_one_more_is_refused(rt: HostRuntime) -> Result<(), Fail> {
     let mut space = patched(256)?;
-    assert_eq!(rt; space.set(0, 256, &[9]), Err(Refusal::TooManyPatches));
+    assert_eq!(rt; space.set(0, 256, &[9]), Err(EditRefusal::TooManyPatches));
     assert_eq!(rt; space.byte(255), Ok(7));
     assert_eq!(rt; space.byte(256), Ok(0));
-    assert_eq!(rt; space.set(0, 100, &[9; 200]), Err(Refusal::TooManyPatches));
+    assert_eq!(rt; space.set(0, 100, &[9; 200]), Err(EditRefusal::TooManyPatches));
     assert_eq!(rt; space.byte(100), Ok(7));
     Ok(())
 }
@@ -39,14 +39,14 @@ fn at_256_replacing_is_accepted(rt: HostRuntime) -> Result<(), Fail> {
 #[test]
 fn at_255_old_and_new_are_counted(rt: HostRuntime) -> Result<(), Fail> {
     let mut space = patched(255)?;
-    assert_eq!(rt; space.set(0, 254, &[1, 2, 3]), Err(Refusal::TooManyPatches));
+    assert_eq!(rt; space.set(0, 254, &[1, 2, 3]), Err(EditRefusal::TooManyPatches));
     assert_eq!(rt; space.byte(254), Ok(7));
     assert_eq!(rt; space.byte(255), Ok(255));
     assert_eq!(rt; space.set(0, 254, &[1, 2]), Ok(()));
     assert_eq!(rt; space.byte(253), Ok(7));
     assert_eq!(rt; space.byte(254), Ok(1));
     assert_eq!(rt; space.byte(255), Ok(2));
-    assert_eq!(rt; space.set(0, 256, &[3]), Err(Refusal::TooManyPatches));
+    assert_eq!(rt; space.set(0, 256, &[3]), Err(EditRefusal::TooManyPatches));
     Ok(())
 }
 

@@ -1,6 +1,6 @@
 use outsiders::Ramp;
 use overlays::Overlay;
-use spaces::{Fault, Refusal, Space};
+use spaces::{Fault, EditRefusal, Space};
 
 // Three overlays over eight bytes that count up.
 fn three() -> Overlay<Overlay<Overlay<Ramp>>> {
@@ -46,10 +46,10 @@ fn the_upper_one_covers_the_lower(rt: HostRuntime) {
 fn each_has_its_own_limit(rt: HostRuntime) {
     let mut space = three();
     assert_eq!(rt; space.set(1, 0, &[1; 256]), Ok(()));
-    assert_eq!(rt; space.set(1, 256, &[1]), Err(Refusal::TooManyPatches));
+    assert_eq!(rt; space.set(1, 256, &[1]), Err(EditRefusal::TooManyPatches));
     assert_eq!(rt; space.set(0, 256, &[1; 256]), Ok(()));
     assert_eq!(rt; space.set(2, 256, &[1; 256]), Ok(()));
-    assert_eq!(rt; space.set(3, 0, &[1]), Err(Refusal::NoOverlay));
+    assert_eq!(rt; space.set(3, 0, &[1]), Err(EditRefusal::NoOverlay));
 }
 
 #[test]

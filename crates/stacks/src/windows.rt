@@ -1,5 +1,5 @@
 use outsiders::{Ramp, Window};
-use spaces::{Fault, Refusal, Space};
+use spaces::{Fault, EditRefusal, Space};
 
 // The last four bytes of a ramp of ten, and two addresses behind them, through two windows.
 fn stacked() -> Window<Window<Ramp>> {
@@ -42,8 +42,8 @@ fn faults_climb(rt: HostRuntime) {
 #[test]
 fn edits_are_refused(rt: HostRuntime) {
     let mut space = stacked();
-    assert_eq!(rt; space.set(0, 0, b"x"), Err(Refusal::NoOverlay));
-    assert_eq!(rt; space.set(2, u64::MAX, b"xy"), Err(Refusal::PastTheEnd));
-    assert_eq!(rt; space.clear(1, 0, 9), Err(Refusal::NoOverlay));
+    assert_eq!(rt; space.set(0, 0, b"x"), Err(EditRefusal::NoOverlay));
+    assert_eq!(rt; space.set(2, u64::MAX, b"xy"), Err(EditRefusal::PastTheEnd));
+    assert_eq!(rt; space.clear(1, 0, 9), Err(EditRefusal::NoOverlay));
     assert_eq!(rt; space.byte(0), Ok(6));
 }

@@ -1,7 +1,7 @@
 use outsiders::Ramp;
 use overlays::Overlay;
 use paging::{Paging, Scheme, Translation};
-use spaces::{Fault, Refusal, Space};
+use spaces::{Fault, EditRefusal, Space};
 use std::process::Abort;
 
 // Memory that has the bytes laid on it and no others. Any other is absent with cause 0x77, two below a paging.
@@ -29,37 +29,37 @@ pub(crate) const ENTRIES: [(u64, u64); 4] = [
 
 // An entry of a page table, which lies there with its lowest byte first.
 pub(crate) trait Entry: Copy {
-    fn lay(self, board: &mut Board, at: u64) -> Result<(), Refusal>;
+    fn lay(self, board: &mut Board, at: u64) -> Result<(), EditRefusal>;
 }
 
 impl Entry for u32 {
-    fn lay(self, board: &mut Board, at: u64) -> Result<(), Refusal> {
+    fn lay(self, board: &mut Board, at: u64) -> Result<(), EditRefusal> {
         board.set(0, at, &self.to_le_bytes())
     }
 }
 
 impl Entry for u64 {
-    fn lay(self, board: &mut Board, at: u64) -> Result<(), Refusal> {
+    fn lay(self, board: &mut Board, at: u64) -> Result<(), EditRefusal> {
         board.set(0, at, &self.to_le_bytes())
     }
 }
 
 // The bytes of an entry as they lie.
 impl<const N: usize> Entry for [u8; N] {
-    fn lay(self, board: &mut Board, at: u64) -> Result<(), Refusal> {
+    fn lay(self, board: &mut Board, at: u64) -> Result<(), EditRefusal> {
         board.set(0, at, &self)
     }
 }
 
 // Lays entries, each at its address.
-pub(crate) fn lay<E: Entry>(board: &mut Board, entries: &[(u64, E)]) -> Result<(), Refusal> {
+pub(crate) fn lay<E: Entry>(board: &mut Board, entries: &[(u64, E)]) -> Result<(), EditRefusal> {
     for (at, entry) in entries {
         entry.lay(board, *at)?;
     }
     Ok(())
 }
 
-pub(crate) fn laid<E: Entry>(entries: &[(u64, E)]) -> Result<Board, Refusal> {
+pub(crate) fn laid<E: Entry>(entries: &[(u64, E)]) -> Result<Board, EditRefusal> {
     let mut board = Overlay::new(Ramp { length: 0 });
     lay(&mut board, entries)?;
     Ok(board)
@@ -92,7 +92,7 @@ impl<P: Scheme + Copy, E: Entry> Way<'_, P, E> {
         Paging::new(self.scheme, self.cr3, board)
     }
 
-    pub(crate) fn paging(&self) -> Result<Paging<P, Board>, Refusal> {
+    pub(crate) fn paging(&self) -> Result<Paging<P, Board>, EditRefusal> {
         Ok(self.over(laid(self.tables)?))
     }
 
@@ -102,7 +102,7 @@ impl<P: Scheme + Copy, E: Entry> Way<'_, P, E> {
         rt: &impl Abort,
         absent: &[u8],
         entries: &[(u64, u8)],
-    ) -> Result<(), Refusal> {
+    ) -> Result<(), EditRefusal> {
         for (place, cause) in entries {
             let mut board = laid(self.tables)?;
             board.set(0, *place, absent)?;
@@ -113,7 +113,7 @@ impl<P: Scheme + Copy, E: Entry> Way<'_, P, E> {
     }
 
     // A missing byte of an entry breaks the walk.
-    pub(crate) fn breaks_at_bytes(&self, rt: &impl Abort, places: &[u64]) -> Result<(), Refusal> {
+    pub(crate) fn breaks_at_bytes(&self, rt: &impl Abort, places: &[u64]) -> Result<(), EditRefusal> {
         for place in places {
             let mut board = laid(self.tables)?;
             board.clear(0, *place, 1)?;

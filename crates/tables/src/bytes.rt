@@ -1,11 +1,11 @@
 use crate::boards::{Board, fault, laid};
 use paging::{Paging, TwoLevel};
-use spaces::{Refusal, Space};
+use spaces::{EditRefusal, Space};
 use std::test::Fail;
 
 // Page 0 is at 0x9000 and page 1 before it at 0x8000; page 2 is not present, and its entry is the table's last.
 // The last 4 MiB are at 0xc0_0000, so the last address goes to 0xff_ffff.
-fn two_pages() -> Result<Board, Refusal> {
+fn two_pages() -> Result<Board, EditRefusal> {
     let mut board = laid::<u32>(&[
         (0x1000, 0x2003),
         (0x2000, 0x9003),

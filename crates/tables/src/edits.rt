@@ -1,10 +1,10 @@
 use crate::boards::{Board, ENTRIES, KIB_4, WAY, fault, goes, laid};
 use paging::{FourLevel, Paging};
-use spaces::{Fault, Refusal, Space, Watched};
+use spaces::{Fault, EditRefusal, Space, Watched};
 use std::test::Fail;
 
 // The way leads to the page at 0x9000, which has an `x` at 0x567; the page at 0xa000 has a `y` there.
-fn tables() -> Result<Board, Refusal> {
+fn tables() -> Result<Board, EditRefusal> {
     let mut board = laid(&ENTRIES)?;
     board.set(0, 0x9567, b"x")?;
     board.set(0, 0xa567, b"y")?;
@@ -15,17 +15,17 @@ fn tables() -> Result<Board, Refusal> {
 fn edits_are_made_below(rt: HostRuntime) -> Result<(), Fail> {
     let mut paging = Paging::new(FourLevel, 0x1000, tables()?);
     for depth in [0, 2] {
-        assert_eq!(rt; paging.set(depth, WAY, b"z"), Err(Refusal::NoOverlay));
-        assert_eq!(rt; paging.set(depth, 0x9567, b"z"), Err(Refusal::NoOverlay));
-        assert_eq!(rt; paging.clear(depth, 0x9567, 1), Err(Refusal::NoOverlay));
-        assert_eq!(rt; paging.clear(depth, 1, u64::MAX), Err(Refusal::NoOverlay));
+        assert_eq!(rt; paging.set(depth, WAY, b"z"), Err(EditRefusal::NoOverlay));
+        assert_eq!(rt; paging.set(depth, 0x9567, b"z"), Err(EditRefusal::NoOverlay));
+        assert_eq!(rt; paging.clear(depth, 0x9567, 1), Err(EditRefusal::NoOverlay));
+        assert_eq!(rt; paging.clear(depth, 1, u64::MAX), Err(EditRefusal::NoOverlay));
     }
     for depth in [0, 1, 2] {
         assert_eq!(rt;
             paging.set(depth, u64::MAX, b"zz"),
-            Err(Refusal::PastTheEnd)
+            Err(EditRefusal::PastTheEnd)
         );
-        assert_eq!(rt; paging.clear(depth, 2, u64::MAX), Err(Refusal::PastTheEnd));
+        assert_eq!(rt; paging.clear(depth, 2, u64::MAX), Err(EditRefusal::PastTheEnd));
     }
     assert_eq!(rt; paging.byte(WAY), Ok(b'x'));
     // at depth 1 an address is one below, so it is not led through the tables
@@ -77,7 +77,7 @@ fn a_patch_on_the_way_shows(rt: HostRuntime) -> Result<(), Fail> {
     }
     let refused = Watched {
         before,
-        outcome: Err(Refusal::PastTheEnd),
+        outcome: Err(EditRefusal::PastTheEnd),
         after: before,
     };
     assert_eq!(rt; paging.patch_below(u64::MAX, b"!!", WAY), refused);

@@ -1,7 +1,7 @@
 use crate::boards::{Board, KIB_4, WAY, fault, goes, laid, lay};
 use overlays::Overlay;
 use paging::{FourLevel, Pae, Paging, Scheme, TwoLevel};
-use spaces::{Refusal, Space};
+use spaces::{EditRefusal, Space};
 use std::test::Fail;
 
 // From the top: the guest's paging at depth 0, an overlay, the host's paging at 2, and the board, an overlay at 3 over
@@ -9,7 +9,7 @@ use std::test::Fail;
 type Guest<P> = Paging<P, Overlay<Paging<FourLevel, Board>>>;
 
 // The host's tables from 0x1000 on: the guest's page 1 is at 0xa000, page 2 at 0x9000, and so on down to 5 at 0x6000.
-fn host() -> Result<Board, Refusal> {
+fn host() -> Result<Board, EditRefusal> {
     laid::<u64>(&[
         (0x1000, 0x2003),
         (0x2000, 0x3003),
@@ -29,7 +29,7 @@ fn guest<P: Scheme>(scheme: P, cr3: u64, board: Board) -> Guest<P> {
 
 // A guest whose tables are its pages 1 to 4: the way's entries are at its addresses 0x1008, 0x2010, 0x3018 and 0x4020,
 // which the host has at 0xa008, 0x9010, 0x8018 and 0x7020. They lead to the guest's 0x5567, which is the host's 0x6567.
-fn four_on_four() -> Result<Guest<FourLevel>, Refusal> {
+fn four_on_four() -> Result<Guest<FourLevel>, EditRefusal> {
     let mut board = host()?;
     lay::<u64>(
         &mut board,
@@ -54,8 +54,8 @@ fn a_guest_on_a_host(rt: HostRuntime) -> Result<(), Fail> {
         Err(fault(0, 0x8000_0000_0000, 0x04))
     );
     for depth in [0, 2, 4] {
-        assert_eq!(rt; space.set(depth, 0x5567, b"z"), Err(Refusal::NoOverlay));
-        assert_eq!(rt; space.clear(depth, 0x5567, 1), Err(Refusal::NoOverlay));
+        assert_eq!(rt; space.set(depth, 0x5567, b"z"), Err(EditRefusal::NoOverlay));
+        assert_eq!(rt; space.clear(depth, 0x5567, 1), Err(EditRefusal::NoOverlay));
     }
     let steps = [
         // the board has the host's addresses, and the overlay between the guest's

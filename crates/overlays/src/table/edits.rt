@@ -7,11 +7,11 @@ ghost use Rattle.overlays.specs.Tables.{held};
 
 use crate::table::PatchTable;
 use arrayvec::{ArrayVec, CapacityError};
-use spaces::{Edit, Patch, Refusal};
+use spaces::{Edit, Patch, EditRefusal};
 
 impl PatchTable {
     // Patches consecutive addresses, unless more than 256 would be patched.
-    pub fn set(&mut self, first: u64, bytes: &[u8]) -> Result<(), Refusal>
+    pub fn set(&mut self, first: u64, bytes: &[u8]) -> Result<(), EditRefusal>
         ensures edits { EditsPatches (held self.old) (held self.new) (setting first bytes.now) result }
         ensures laws { EditLaws (setting first bytes.now) (held self.old) (held self.new) result }
     {
@@ -19,7 +19,7 @@ impl PatchTable {
     }
 
     // Takes back the patches among some addresses.
-    pub fn clear(&mut self, first: u64, count: u64) -> Result<(), Refusal>
+    pub fn clear(&mut self, first: u64, count: u64) -> Result<(), EditRefusal>
         ensures edits { EditsPatches (held self.old) (held self.new) (clearing first count) result }
         ensures laws { EditLaws (clearing first count) (held self.old) (held self.new) result }
         ensures fits { ClearLaw first count result }
@@ -28,14 +28,14 @@ impl PatchTable {
     }
 
     // Makes either edit, unless more than 256 addresses would be patched.
-    pub fn edit(&mut self, edit: Edit<'_>) -> Result<(), Refusal>
+    pub fn edit(&mut self, edit: Edit<'_>) -> Result<(), EditRefusal>
         ensures edits { EditsPatches (held self.old) (held self.new) (meant edit.entry) result }
         ensures laws { EditLaws (meant edit.entry) (held self.old) (held self.new) result }
     {
         edit.within()?;
         *self = self
             .replaced(edit.first(), edit.end(), edit.bytes())
-            .map_err(|_| Refusal::TooManyPatches)?;
+            .map_err(|_| EditRefusal::TooManyPatches)?;
         Ok(())
     }
 
