@@ -1,4 +1,3 @@
-pub mod Numbers
 pub mod Entries
 pub mod Descents
 pub mod Ways

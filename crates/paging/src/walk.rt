@@ -10,7 +10,7 @@ ghost use Rattle.paging.specs.Entries.{as_number, entry_found};
 use crate::cause::PagingCause;
 use crate::entry::{Entry, Page, Target};
 use crate::scheme::Scheme;
-use spaces::{Fault, FaultCause, Space, climb};
+use spaces::{Fault, FaultCause, Space, climb, fill_below};
 
 // The byte below at an address; a fault comes up one deeper.
 pub(crate) fn byte_below<S: Space>(below: &S, at: u64) -> Result<u8, Fault>
@@ -19,17 +19,17 @@ pub(crate) fn byte_below<S: Space>(below: &S, at: u64) -> Result<u8, Fault>
     climb(below.byte(at))
 }
 
-// The number in so many bytes below, the lowest read first.
+// The number in so many bytes below. As `fill` promises, the lowest byte is read first, and the first that is missing is the
+// fault.
 fn number<S: Space>(below: &S, at: u64, width: u8) -> Result<u64, Fault>
     requires { (width ≤ 8) × (at + width < 2 ^ 64) }
     ensures { result ≡ as_number (got (shown (S.Space.meaning below.now)) (span at width)) }
 {
-    let mut number = 0;
-    for n in 0..width {
-        let byte = byte_below(below, at + n as u64)?;
-        number += (byte as u64) << (8 * n);
+    let mut bytes = [0; 8];
+    match fill_below(below, at, &mut bytes[..width as usize]) {
+        (_, Some(fault)) => Err(fault),
+        (_, None) => Ok(u64::from_le_bytes(bytes)),
     }
-    Ok(number)
 }
 
 // The entry of an address in a table of a level.
