@@ -1,6 +1,7 @@
 ghost use Rattle.paging.specs.Causes.{cause_number};
 
-use spaces::{FaultCause, Numbered};
+use numbers::Numbered;
+use spaces::FaultCause;
 
 // Why a walk ends without a page.
 #[derive(Clone, Copy, Debug, PartialEq, Eq)]
