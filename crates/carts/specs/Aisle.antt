@@ -1,15 +1,11 @@
-use Rattle.std.specs.Prelude.{ℕ, zero, suc, ◌+◌, ◌-◌, ◌/◌, ◌%◌, List, [], ◌∷◌, ◌++◌, length, replicate}
+use Rattle.std.specs.Prelude.{ℕ, ◌+◌, ◌-◌, List, [], ◌∷◌, ◌++◌, length, replicate}
+use Rattle.endian.specs.Little.{little_endian_bytes}
 
 -- The dump of the sample cart, as a LiME file.
 
--- a number in so many bytes, the lowest first
-abbrev pub little : (width n : ℕ) → List ℕ
-little zero n = []
-little (suc width) n = n % 256 ∷ little width (n / 256)
-
 -- the header of a range: magic, version, first and last address, eight zeros
 abbrev pub header : (first last : ℕ) → List ℕ
-header first last = little 4 0x4C694D45 ++ (little 4 1 ++ (little 8 first ++ (little 8 last ++ little 8 0)))
+header first last = little_endian_bytes 4 0x4C694D45 ++ (little_endian_bytes 4 1 ++ (little_endian_bytes 8 first ++ (little_endian_bytes 8 last ++ little_endian_bytes 8 0)))
 
 -- a range with these bytes, and zeros behind them up to its last address
 abbrev pub range : (first last : ℕ) → List ℕ → List ℕ
