@@ -2,3 +2,4 @@ pub mod Loading
 pub mod Separate
 pub mod Headers
 pub mod Showing
+pub mod HeaderBytes

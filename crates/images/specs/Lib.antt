@@ -5,3 +5,4 @@ pub mod Raw
 pub mod Lime
 pub mod Shows
 pub mod Texts
+pub mod Bytes

@@ -2,6 +2,7 @@
 #![tactic(auto)]
 
 mod image;
+mod laws;
 mod lime;
 mod load;
 mod range;
@@ -9,6 +10,7 @@ mod raw;
 mod raw_file;
 
 pub use image::Image;
+pub use laws::every_header_is_read_back;
 pub use lime::load_lime;
 pub use load::NotLoaded;
 pub use range::LimeRange;
