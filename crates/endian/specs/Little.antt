@@ -1,10 +1,15 @@
-use Rattle.std.specs.Prelude.{ℕ, ◌+◌, ◌*◌, cond, List, [], ◌∷◌, length, take, drop, Some, None, Option, nat_le}
+use Rattle.std.specs.Prelude.{ℕ, zero, suc, ◌+◌, ◌*◌, ◌/◌, ◌%◌, cond, List, [], ◌∷◌, length, take, drop, Some, None, Option, nat_le}
 use Rattle.std.specs.Option.{option_map}
 
 -- the number that bytes make, the lowest first
 abbrev pub little_endian : List ℕ → ℕ
 little_endian [] = 0
 little_endian (b ∷ bs) = b + 256 * little_endian bs
+
+-- a number in so many bytes, the lowest first
+abbrev pub little_endian_bytes : (width n : ℕ) → List ℕ
+little_endian_bytes zero n = []
+little_endian_bytes (suc width) n = n % 256 ∷ little_endian_bytes width (n / 256)
 
 -- so many bytes from a place on, or none if the bytes end before that
 abbrev pub bytes_in : List ℕ → ℕ → ℕ → Option (List ℕ)

@@ -3,3 +3,4 @@ pub mod Separate
 pub mod Walking
 pub mod Headers
 pub mod Showing
+pub mod HeaderBytes

@@ -8,3 +8,4 @@ pub mod Raw
 pub mod Lime
 pub mod Shows
 pub mod Texts
+pub mod Bytes

@@ -3,6 +3,7 @@
 
 mod cause;
 mod image;
+mod laws;
 mod lime;
 mod load;
 mod range;
@@ -13,6 +14,7 @@ mod step;
 
 pub use cause::ImageCause;
 pub use image::Image;
+pub use laws::every_header_is_read_back;
 pub use lime::load_lime;
 pub use load::NotLoaded;
 pub use range::LimeRange;
