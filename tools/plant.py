@@ -15,6 +15,7 @@ The crate itself has to be proved first, without which no verdict counts. The la
 'CRATE: planted N refused M survived K, and L that do not compile'.
 """
 import argparse
+import glob
 import os
 import random
 import re
@@ -25,14 +26,13 @@ import tempfile
 from concurrent.futures import ThreadPoolExecutor
 from queue import Queue
 
-REFUSALS = ["WrongSum", "NoEnd", "BadForm", "NoAddresses", "WrongDigits", "PastTheEnd", "NoOverlay", "TooManyPatches",
-            "HeaderCut", "BadHeader", "Overlap", "TableFull", "BadLength", "BadRecord"]
 PAIRS = [  # each is turned into the other, as a whole word
     ("min", "max"), ("first", "last"), ("true", "false"), ("is_some", "is_none"), ("is_ok", "is_err"), ("any", "all"),
     ("checked_add", "checked_sub"), ("saturating_sub", "wrapping_sub"), ("saturating_add", "wrapping_add"),
-    ("take", "skip"), ("from_le_bytes", "from_be_bytes"), ("NoExtent", "NotStored"), ("Set", "Clear"), ("Ok", "Err"),
+    ("take", "skip"), ("from_le_bytes", "from_be_bytes"), ("Set", "Clear"), ("Ok", "Err"),
     ("before", "after"), ("u32_at", "u64_at"), ("starts_with", "ends_with"), ("take_while", "skip_while"),
 ]
+SPEC_PAIRS = [("min", "max"), ("first", "last"), ("true", "false"), ("Set", "Clear")]
 CODE = [  # a pattern, and what stands for it
     (r" <= ", " < "), (r" >= ", " > "), (r" < (?=[\w(*])", " <= "), (r" > (?=[\w(*])", " >= "),
     (r" == ", " != "), (r" != ", " == "), (r" && ", " || "), (r" \|\| ", " && "),
@@ -52,6 +52,50 @@ DEFINITIONS = [
     (r"\bSome \w+$", "None"), (r"\bsuc (\w+)(?= *(\)|$))", r"\1"), (r"\bzero$", "1"), (r"\[\]$", "(0 ∷ [])"),
 ]
 NUMBER = re.compile(r"(?<![\w.'\"])(0x[0-9a-fA-F_]+|\d[\d_]*)(?![\w'.\"])")
+ENUM = re.compile(r"^pub enum (\w*(?:Refusal|Cause)) \{\n(.*?)^\}", re.M | re.S)
+VARIANT = re.compile(r"^    ([A-Z]\w*)(\(.*\))?( = \w+)?,$", re.M)
+
+
+def numbered_enums():
+    """The enums of refusals and causes that have numbers, in all crates: of each its variants with the data of each."""
+    texts = [open(path).read() for path in sorted(glob.glob("crates/*/src/**/*.rt", recursive=True))]
+    numbered = {name for text in texts for name in re.findall(r"^impl Numbered for (\w+)", text, re.M)}
+    enums = {}
+    for name, body in (found for text in texts for found in ENUM.findall(text)):
+        variants = VARIANT.findall(body)
+        if name in numbered or any(number for _, _, number in variants):
+            enums[name] = {variant: data for variant, data, _ in variants}
+    return enums
+
+
+def next_of(variants, one):
+    """The variant behind this one that has the same data, or the first such; None where there is no other."""
+    alike = [x for x in variants if variants[x] == variants[one]]
+    other = alike[(alike.index(one) + 1) % len(alike)]
+    return other if other != one else None
+
+
+def other_variants(line, enums):
+    for m in re.finditer(r"\b(\w+)::(\w+)\b", line):
+        variants = enums.get(m.group(1), {})
+        other = next_of(variants, m.group(2)) if m.group(2) in variants else None
+        if other:
+            yield line[: m.start(2)] + other + line[m.end(2):]
+
+
+def imported_variants(lines, enums):
+    """The variants that a file of definitions imports, by the enum of each."""
+    for m in re.finditer(r"^use \S+\.(\w+)\.TheVariants\.\{([^}]*)\}", "\n".join(lines), re.M):
+        variants = enums.get(m.group(1), {})
+        yield {x: variants[x] for x in m.group(2).split(", ") if x in variants}
+
+
+def other_constructors(line, imported):
+    for variants in imported:
+        for one in variants:
+            other = next_of(variants, one)
+            for m in re.finditer(rf"\b{one}\b", line) if other else []:
+                yield line[: m.start()] + other + line[m.end():]
 
 
 def numbers(line):
@@ -82,7 +126,7 @@ def swapped(line):
             yield line[: m.start()] + m.expand(r"\2, \1") + line[m.end():]
 
 
-def code_bugs(line):
+def code_bugs(line, enums):
     yield from patterns(line, CODE)
     yield from swapped(line)
     yield from numbers(line)
@@ -91,22 +135,19 @@ def code_bugs(line):
         yield line[: m.start(1)] + chr(ord(m.group(1)) + 1) + line[m.end(1):]
     for m in re.finditer(r'"([\w.$#:]+)"', line):
         yield line[: m.start(1)] + m.group(1)[::-1] + line[m.end(1):]
-    m = re.search(r"\bRefusal::(\w+)", line)
-    if m and m.group(1) in REFUSALS:
-        other = REFUSALS[(REFUSALS.index(m.group(1)) + 1) % len(REFUSALS)]
-        yield line[: m.start(1)] + other + line[m.end(1):]
+    yield from other_variants(line, enums)
     if STATEMENT.match(line):
         yield re.match(r"^\s*", line).group(0) + "{}"
         if " = " not in line:
             yield line + line.strip()
 
 
-def spec_bugs(line):
+def spec_bugs(line, imported):
     equals = line.find(" = ")
     if equals < 0:
         return
     head, body = line[: equals + 3], line[equals + 3:]
-    for new in list(patterns(body, DEFINITIONS)) + list(numbers(body)) + list(words(body, PAIRS[:3] + PAIRS[11:13])):
+    for new in (*patterns(body, DEFINITIONS), *numbers(body), *words(body, SPEC_PAIRS), *other_constructors(body, imported)):
         yield head + new
 
 
@@ -160,6 +201,7 @@ def tests_of(crate):
 def planted(crate, specs):
     folder, end = ("specs", ".antt") if specs else ("src", ".rt")
     tests = tests_of(crate)
+    enums = numbered_enums()
     for at, _, names in sorted(os.walk(os.path.join("crates", crate, folder))):
         if f"{folder}/declared" in at:
             continue
@@ -169,9 +211,10 @@ def planted(crate, specs):
             path = os.path.join(at, name)
             lines = open(path).read().split("\n")
             names = names_of(lines)
+            imported = list(imported_variants(lines, enums)) if specs else []
             for n in (spec_lines if specs else code_lines)(lines):
                 seen = {lines[n]}
-                for new in spec_bugs(lines[n]) if specs else code_bugs(lines[n]):
+                for new in spec_bugs(lines[n], imported) if specs else code_bugs(lines[n], enums):
                     if new not in seen:
                         seen.add(new)
                         yield 0, path, n, lines[n], new

@@ -1,8 +1,7 @@
-use crate::piles::{Windowed, counting, windowed};
-use crate::talk::{owing, replies};
+use crate::piles::{counting, windowed};
+use crate::talk::{apply, apply_owing, begun, ended, replies};
 use patchfiles::Stopped;
-use sessions::Waiting;
-use spaces::{Numbered, Refusal, Space};
+use spaces::{Numbered, Refusal};
 use std::process::Abort;
 
 type Raw = [u8; 16];
@@ -24,63 +23,28 @@ fn stopped(refusal: Refusal, index: usize) -> Result<usize, Stopped> {
     Err(Stopped { refusal, index })
 }
 
-fn apply<S: Space + Drop>(
-    rt: &impl Abort,
-    session: Waiting<S>,
-    file: &[u8],
-    expected: Result<usize, Stopped>,
-) -> Waiting<S> {
-    let mut session = session;
-    assert!(rt; session.apply(file) == expected);
-    session
-}
-
-// The same while a reply is owed.
-fn apply_owing<S: Space + Drop>(
-    rt: &impl Abort,
-    session: Waiting<S>,
-    file: &[u8],
-    expected: Result<usize, Stopped>,
-) -> Waiting<S> {
-    let mut session = owing(rt, session, b"D");
-    assert!(rt; session.apply(file) == expected);
-    let mut buffer = [0; packets::REPLY];
-    let (session, _) = session.answer(b"D", &mut buffer);
-    session
-}
-
 // A session that has patched address 4 at depth 2 and met a fault.
-fn begun(rt: &impl Abort) -> Waiting<Windowed> {
-    replies(
-        rt,
-        Waiting::new(windowed()),
-        &[
-            ("Qaisle.depth:02", "OK"),
-            ("M4,1:aa", "OK"),
-            ("m10,1", "E78"),
-        ],
-    )
-}
+const BEFORE: &[(&str, &str)] = &[
+    ("Qaisle.depth:02", "OK"),
+    ("M4,1:aa", "OK"),
+    ("m10,1", "E78"),
+];
 
-// It has the same fault, these bytes, and the same depth, at which it patches 5.
-fn ends(rt: &impl Abort, session: Waiting<Windowed>, bytes: &str) {
-    let session = replies(
-        rt,
-        session,
-        &[
-            ("qaisle.fault", "01,0000000000000010,78"),
-            ("m0,10", bytes),
-            ("M5,1:bb", "OK"),
-            ("m1,1", "bb"),
-        ],
-    );
-    let _ = session.close();
-}
-
-// In both states of a session.
+// A file is applied to it in both of its states. Then it has the same fault, these bytes, and the same depth, at which it
+// patches 5.
 fn applies(rt: &impl Abort, file: &[u8], expected: Result<usize, Stopped>, bytes: &str) {
-    ends(rt, apply(rt, begun(rt), file, expected), bytes);
-    ends(rt, apply_owing(rt, begun(rt), file, expected), bytes);
+    let after = [
+        ("qaisle.fault", "01,0000000000000010,78"),
+        ("m0,10", bytes),
+        ("M5,1:bb", "OK"),
+        ("m1,1", "bb"),
+    ];
+    let session = replies(rt, begun(windowed()), BEFORE);
+    let session = apply(rt, session, file, expected);
+    let _ = ended(replies(rt, session, &after));
+    let session = replies(rt, begun(windowed()), BEFORE);
+    let session = apply_owing(rt, session, file, expected);
+    let _ = ended(replies(rt, session, &after));
 }
 
 // What the session has where no record takes effect.
@@ -117,7 +81,7 @@ fn records_in_order(rt: HostRuntime) {
 fn bytes_of_a_file(rt: HostRuntime) {
     let file = *b"\x08\x07\x06\x05\x04\x03\x02\x01\0\x01\0\0\x99\0\0\0\
         \xff\xff\xff\xff\xff\xff\xff\xff\0\x01\0\0\x98\0\0\0";
-    let session = apply(&rt, Waiting::new(counting(4)), &file, Ok(2));
+    let session = apply(&rt, begun(counting(4)), &file, Ok(2));
     let session = replies(
         &rt,
         session,
@@ -127,7 +91,7 @@ fn bytes_of_a_file(rt: HostRuntime) {
             ("qaisle.fault", "none"),
         ],
     );
-    let _ = session.close();
+    let _ = ended(session);
 }
 
 #[test]
@@ -219,12 +183,11 @@ fn too_many_patches(rt: HostRuntime) {
         *slot = set(address, 0, 0x5a);
     }
     let stop = stopped(Refusal::TooManyPatches, 256);
-    let session = Waiting::new(counting(0x200));
-    let session = apply(&rt, session, full.as_flattened(), stop);
+    let session = apply(&rt, begun(counting(0x200)), full.as_flattened(), stop);
     let there = [("m0,2", "5a5a"), ("mfe,4", "5a5a0001")];
     let session = replies(&rt, session, &there);
     let other = [clear(0, 0), set(0x100, 0, 0x5b)];
     let session = apply_owing(&rt, session, other.as_flattened(), Ok(2));
     let there = [("m0,2", "005a"), ("mfe,4", "5a5a5b01"), ("M0,1:00", "E27")];
-    let _ = replies(&rt, session, &there).close();
+    let _ = ended(replies(&rt, session, &there));
 }

@@ -1,48 +1,20 @@
 use crate::piles::counting;
-use crate::talk::replies;
-use packets::{Item, REPLY};
-use sessions::{Heard, Owing, Waiting};
-use spaces::Space;
+use crate::talk::{begun, ended, hear_other, hear_packet, replies};
+use packets::Item;
 use std::process::Abort;
-
-// A reply that nobody looks at.
-fn close<S: Space>(session: Owing<S>) -> S {
-    let mut buffer = [0; REPLY];
-    let (session, _) = session.answer(b"", &mut buffer);
-    session.close()
-}
-
-// What is heard is no packet, but this item, and the session still waits.
-fn still_waits<S: Space + Drop>(
-    rt: &impl Abort,
-    session: Waiting<S>,
-    received: &[u8],
-    expected: Item,
-) -> Waiting<S> {
-    match session.hear(received) {
-        Heard::Packet { session, .. } => {
-            let _ = close(session);
-            panic!(rt; "it is a packet")
-        }
-        Heard::Other { session, item } => {
-            assert!(rt; item == expected, "{received:?}");
-            session
-        }
-    }
-}
 
 // It has its patch, its fault and its depth.
 fn hears_no_packet(rt: &impl Abort, received: &[u8], expected: Item) {
     let session = replies(
         rt,
-        Waiting::new(counting(4)),
+        begun(counting(4)),
         &[
             ("M1,1:ee", "OK"),
             ("m4,1", "E77"),
             ("Qaisle.depth:09", "OK"),
         ],
     );
-    let session = still_waits(rt, session, received, expected);
+    let session = hear_other(rt, session, received, expected);
     let session = replies(
         rt,
         session,
@@ -52,7 +24,7 @@ fn hears_no_packet(rt: &impl Abort, received: &[u8], expected: Item) {
             ("M0,1:00", "E26"),
         ],
     );
-    let _ = session.close();
+    let _ = ended(session);
 }
 
 fn all_hear(rt: &impl Abort, texts: &[&str], expected: Item) {
@@ -86,18 +58,11 @@ fn no_end(rt: HostRuntime) {
 }
 
 // A packet is heard whatever comes behind it, and uses its own bytes alone.
-fn hears_packet(rt: &impl Abort, received: &str, expected: &str, used: usize) {
-    match Waiting::new(counting(4)).hear(received.as_bytes()) {
-        Heard::Packet { session, payload } => {
-            let _ = close(session);
-            assert!(rt; payload == expected.as_bytes(), "{received}");
-            assert!(rt; Item::Packet { payload }.used() == used, "{received}");
-        }
-        Heard::Other { session, .. } => {
-            let _ = session.close();
-            panic!(rt; "it is no packet")
-        }
-    }
+fn hears_packet(rt: &impl Abort, received: &str, payload: &str, used: usize) {
+    let payload = payload.as_bytes();
+    let session = begun(counting(4));
+    let _ = ended(hear_packet(rt, session, received.as_bytes(), payload));
+    assert!(rt; Item::Packet { payload }.used() == used, "{received}");
 }
 
 #[test]

@@ -1,9 +1,6 @@
 use crate::piles::counting;
-use crate::talk::{dialogue, replies, reply};
-use outsiders::Ramp;
-use overlays::Overlay;
+use crate::talk::{begun, dialogue, ended, replies, reply};
 use packets::PAYLOAD;
-use sessions::Waiting;
 use std::process::Abort;
 
 const DIGITS: [u8; 16] = *b"0123456789abcdef";
@@ -23,9 +20,8 @@ fn counted_up() -> [u8; PAYLOAD] {
 fn reads(rt: &impl Abort, length: u64, payload: &str, bytes: usize, fault: &str) {
     let text = counted_up();
     let told = &text[..2 * bytes.min(2_048)];
-    let session = Waiting::new(counting(length));
-    let session = reply(rt, session, payload.as_bytes(), told);
-    let _ = replies(rt, session, &[("qaisle.fault", fault)]).close();
+    let session = reply(rt, begun(counting(length)), payload.as_bytes(), told);
+    let _ = ended(replies(rt, session, &[("qaisle.fault", fault)]));
 }
 
 #[test]
@@ -81,16 +77,12 @@ fn write<'a>(place: &[u8], bytes: u16, payload: &'a mut [u8; PAYLOAD]) -> &'a [u
     &payload[..(start + 2 * bytes as usize).min(PAYLOAD)]
 }
 
-// An overlay with patches at addresses 0 to ff.
-fn full(rt: &impl Abort) -> Waiting<Overlay<Ramp>> {
-    let mut payload = [0; PAYLOAD];
-    let written = write(b"M0,100:", 256, &mut payload);
-    reply(rt, Waiting::new(counting(0x200)), written, b"OK")
-}
-
 #[test]
 fn no_more_than_256_patches(rt: HostRuntime) {
-    let session = full(&rt);
+    // patches at addresses 0 to ff
+    let mut payload = [0; PAYLOAD];
+    let written = write(b"M0,100:", 256, &mut payload);
+    let session = reply(&rt, begun(counting(0x200)), written, b"OK");
     let session = replies(
         &rt,
         session,
@@ -106,16 +98,16 @@ fn no_more_than_256_patches(rt: HostRuntime) {
             ("qaisle.fault", "none"),
         ],
     );
-    let _ = session.close();
+    let _ = ended(session);
 }
 
 // Writes of more bytes than there can be patches.
 fn too_many(rt: &impl Abort, place: &str, bytes: u16, text: &[u8]) {
     let mut payload = [0; PAYLOAD];
     let written = write(place.as_bytes(), bytes, &mut payload);
-    let session = reply(rt, Waiting::new(counting(0x200)), written, text);
+    let session = reply(rt, begun(counting(0x200)), written, text);
     let session = replies(rt, session, &[("m0,2", "0001"), ("mfe,4", "feff0001")]);
-    let _ = session.close();
+    let _ = ended(session);
 }
 
 #[test]

@@ -1,6 +1,5 @@
 use crate::piles::windowed;
-use crate::talk::{replies, reply};
-use sessions::Waiting;
+use crate::talk::{begun, ended, replies, reply};
 use std::process::Abort;
 
 // A session that has patched address 4 at depth 2 and met a fault, is refused a payload with this reply, and then shows what
@@ -8,7 +7,7 @@ use std::process::Abort;
 fn refused(rt: &impl Abort, payload: &str, text: &str) {
     let session = replies(
         rt,
-        Waiting::new(windowed()),
+        begun(windowed()),
         &[
             ("Qaisle.depth:02", "OK"),
             ("M4,1:aa", "OK"),
@@ -27,7 +26,7 @@ fn refused(rt: &impl Abort, payload: &str, text: &str) {
             ("m0,3", "aabb06"),
         ],
     );
-    let _ = session.close();
+    let _ = ended(session);
 }
 
 fn all_refused(rt: &impl Abort, payloads: &[&str], text: &str) {
@@ -137,7 +136,7 @@ fn past_the_end(rt: HostRuntime) {
 
 // At another depth than those of the overlays a write is refused, by an earlier number where one applies.
 fn refused_at(rt: &impl Abort, depth: &str) {
-    let session = reply(rt, Waiting::new(windowed()), depth.as_bytes(), b"OK");
+    let session = reply(rt, begun(windowed()), depth.as_bytes(), b"OK");
     let session = replies(
         rt,
         session,
@@ -155,7 +154,7 @@ fn refused_at(rt: &impl Abort, depth: &str) {
             ("m0,10", "0405060708090a0b0c0d0e0f"),
         ],
     );
-    let _ = session.close();
+    let _ = ended(session);
 }
 
 #[test]

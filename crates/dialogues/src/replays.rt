@@ -1,9 +1,9 @@
 use crate::piles::{counting, windowed};
-use crate::talk::{dialogue, framed};
+use crate::talk::{dialogue, framed, replayed};
 use packets::{Item, PAYLOAD, REPLY};
 use patchfiles::Stopped;
-use sessions::{Call, Outcome, Slot, Stage, replay};
-use spaces::{Refusal, Space};
+use sessions::{Call, Outcome, Slot};
+use spaces::Refusal;
 use std::process::Abort;
 
 // A place before a call: it has an outcome that no call here has.
@@ -42,18 +42,6 @@ fn are(rt: &impl Abort, slots: &[Slot], expected: &[Slot]) {
     }
 }
 
-// The space of a session, and whether it owes a reply.
-fn left<S: Space>(stage: Stage<S>) -> (bool, S) {
-    match stage {
-        Stage::Waits(session) => (false, session.close()),
-        Stage::Owes(session) => {
-            let mut buffer = [0; REPLY];
-            let (session, _) = session.answer(b"", &mut buffer);
-            (true, session.close())
-        }
-    }
-}
-
 // `D`, as it is sent.
 const PACKET: Call<'static> = Call::Hear(b"$D#44");
 
@@ -78,7 +66,7 @@ fn calls_in_turn(rt: HostRuntime) {
         Call::Answer(b"m0,2"),
     ];
     let mut slots = [EMPTY; 12];
-    let (owes, _) = left(replay(counting(4), &calls, &mut slots));
+    let (owes, _) = replayed(counting(4), &calls, &mut slots);
     assert!(rt; !owes);
     let expected = [
         came(Outcome::NotAllowed),
@@ -118,7 +106,7 @@ fn calls_not_allowed(rt: HostRuntime) {
         Call::Answer(b"M5,1:bb"),
     ];
     let mut slots = [EMPTY; 12];
-    let (owes, space) = left(replay(windowed(), &calls, &mut slots));
+    let (owes, space) = replayed(windowed(), &calls, &mut slots);
     assert!(rt; !owes);
     // address 4 is patched at depth 2, and 5 is not
     let there = [
@@ -155,7 +143,7 @@ fn fewer_places_than_calls(rt: HostRuntime) {
         Call::Apply(&FILE),
     ];
     let mut slots = [EMPTY; 3];
-    let (owes, space) = left(replay(counting(4), &calls, &mut slots));
+    let (owes, space) = replayed(counting(4), &calls, &mut slots);
     assert!(rt; owes);
     dialogue(&rt, space, &[("m0,2", "ff01")]);
     are(&rt, &slots, &[packet(b"D"), says(b"OK"), packet(b"D")]);
@@ -165,7 +153,7 @@ fn fewer_places_than_calls(rt: HostRuntime) {
 fn more_places_than_calls(rt: HostRuntime) {
     let calls = [PACKET, Call::Apply(&FILE)];
     let mut slots = [EMPTY; 4];
-    let (owes, space) = left(replay(counting(4), &calls, &mut slots));
+    let (owes, space) = replayed(counting(4), &calls, &mut slots);
     assert!(rt; owes);
     dialogue(&rt, space, &[("m0,2", "00ee")]);
     let expected = [packet(b"D"), came(Outcome::Applied(Ok(1))), EMPTY, EMPTY];
@@ -175,10 +163,10 @@ fn more_places_than_calls(rt: HostRuntime) {
 #[test]
 fn no_calls_or_no_places(rt: HostRuntime) {
     let mut slots = [EMPTY; 1];
-    let (owes, _) = left(replay(counting(4), &[], &mut slots));
+    let (owes, _) = replayed(counting(4), &[], &mut slots);
     assert!(rt; !owes);
     are(&rt, &slots, &[EMPTY]);
-    let (owes, space) = left(replay(counting(4), &[Call::Apply(&FILE)], &mut []));
+    let (owes, space) = replayed(counting(4), &[Call::Apply(&FILE)], &mut []);
     assert!(rt; !owes);
     dialogue(&rt, space, &[("m0,2", "0001")]);
 }

@@ -1,6 +1,5 @@
 use crate::piles::{counting, windowed};
-use crate::talk::{dialogue, framed, reply};
-use sessions::Waiting;
+use crate::talk::{begun, dialogue, ended, framed, reply};
 
 // Frames as the protocol's manual and GDB's logs have them, by which the frames of these tests are judged.
 #[test]
@@ -74,8 +73,7 @@ fn unknown_ones(rt: HostRuntime) {
 
 #[test]
 fn registers(rt: HostRuntime) {
-    let session = reply(&rt, Waiting::new(counting(16)), b"g", &[b'x'; 328]);
-    let _ = session.close();
+    let _ = ended(reply(&rt, begun(counting(16)), b"g", &[b'x'; 328]));
 }
 
 // What is patched stays when GDB has detached, and so do the edit depth and the last fault.

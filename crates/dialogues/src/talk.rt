@@ -1,5 +1,8 @@
-use packets::{PAYLOAD, REPLY};
-use sessions::{Heard, Owing, Waiting};
+// Sessions as these tests hold them: no other file of these tests makes a call of `sessions`.
+
+use packets::{Item, PAYLOAD, REPLY};
+use patchfiles::Stopped;
+use sessions::{Call, Heard, Owing, Slot, Stage, Waiting, replay};
 use spaces::Space;
 use std::process::Abort;
 
@@ -20,25 +23,92 @@ pub(crate) fn framed(text: &[u8]) -> [u8; REPLY] {
     buffer
 }
 
-// A session that has heard a payload, and owes a reply.
-pub(crate) fn owing<S: Space + Drop>(
+pub(crate) fn begun<S: Space>(space: S) -> Waiting<S> {
+    Waiting::new(space)
+}
+
+// The space of a session that is over.
+pub(crate) fn ended<S: Space>(session: Waiting<S>) -> S {
+    session.close()
+}
+
+// A session that has heard a packet with this payload first, and owes a reply.
+fn owing<S: Space + Drop>(
     rt: &impl Abort,
     session: Waiting<S>,
-    payload: &[u8],
+    received: &[u8],
+    expected: &[u8],
 ) -> Owing<S> {
-    match session.hear(&framed(payload)) {
-        Heard::Packet {
-            session,
-            payload: heard,
-        } => {
-            assert_eq!(rt; heard, payload);
+    match session.hear(received) {
+        Heard::Packet { session, payload } => {
+            assert_eq!(rt; payload, expected, "{received:?}");
             session
         }
         Heard::Other { session, .. } => {
-            let _ = session.close();
+            let _ = ended(session);
             panic!(rt; "it is no packet")
         }
     }
+}
+
+// A session that has answered, by a reply that nobody looks at.
+fn answered<S: Space>(session: Owing<S>, payload: &[u8]) -> Waiting<S> {
+    let mut buffer = [0; REPLY];
+    let (session, _) = session.answer(payload, &mut buffer);
+    session
+}
+
+// A packet is heard, and its payload answered.
+pub(crate) fn hear_packet<S: Space + Drop>(
+    rt: &impl Abort,
+    session: Waiting<S>,
+    received: &[u8],
+    payload: &[u8],
+) -> Waiting<S> {
+    answered(owing(rt, session, received, payload), payload)
+}
+
+// What is heard is no packet, but this item, and the session still waits.
+pub(crate) fn hear_other<S: Space + Drop>(
+    rt: &impl Abort,
+    session: Waiting<S>,
+    received: &[u8],
+    expected: Item,
+) -> Waiting<S> {
+    match session.hear(received) {
+        Heard::Packet { session, .. } => {
+            let _ = ended(answered(session, b""));
+            panic!(rt; "it is a packet")
+        }
+        Heard::Other { session, item } => {
+            assert!(rt; item == expected, "{received:?}");
+            session
+        }
+    }
+}
+
+// A patch file is applied, of which this comes.
+pub(crate) fn apply<S: Space + Drop>(
+    rt: &impl Abort,
+    session: Waiting<S>,
+    file: &[u8],
+    expected: Result<usize, Stopped>,
+) -> Waiting<S> {
+    let mut session = session;
+    assert!(rt; session.apply(file) == expected);
+    session
+}
+
+// The same while a reply is owed.
+pub(crate) fn apply_owing<S: Space + Drop>(
+    rt: &impl Abort,
+    session: Waiting<S>,
+    file: &[u8],
+    expected: Result<usize, Stopped>,
+) -> Waiting<S> {
+    let mut session = owing(rt, session, &framed(b"D"), b"D");
+    assert!(rt; session.apply(file) == expected);
+    answered(session, b"D")
 }
 
 // A payload is heard and answered with the frame of this text, and the buffer behind it is as it was.
@@ -48,7 +118,7 @@ pub(crate) fn reply<S: Space + Drop>(
     payload: &[u8],
     text: &[u8],
 ) -> Waiting<S> {
-    let session = owing(rt, session, payload);
+    let session = owing(rt, session, &framed(payload), payload);
     let mut buffer = [b'.'; REPLY];
     let (session, count) = session.answer(payload, &mut buffer);
     assert_eq!(rt; buffer, framed(text), "{payload:?}");
@@ -71,5 +141,17 @@ pub(crate) fn replies<S: Space + Drop>(
 
 // A session of its own over a space, which it gives back.
 pub(crate) fn dialogue<S: Space + Drop>(rt: &impl Abort, space: S, turns: &[(&str, &str)]) -> S {
-    replies(rt, Waiting::new(space), turns).close()
+    ended(replies(rt, begun(space), turns))
+}
+
+// Calls are made over a new session: whether it owes a reply at the end, and its space.
+pub(crate) fn replayed<'a, S: Space>(
+    space: S,
+    calls: &[Call<'a>],
+    slots: &mut [Slot<'a>],
+) -> (bool, S) {
+    match replay(space, calls, slots) {
+        Stage::Waits(session) => (false, ended(session)),
+        Stage::Owes(session) => (true, ended(answered(session, b""))),
+    }
 }

@@ -33,7 +33,7 @@ fn cart_sends(
 ) -> Result<(), Refusal> {
     let mut memory = [LimeRange::default(); RANGES];
     let cart = load_cart(&DUMP, b"\0\x10", &mut memory)?;
-    let _ = sends(rt, cart, input, expected);
+    sends(rt, cart, input, expected);
     Ok(())
 }
 

@@ -1,6 +1,5 @@
 use crate::peers::{Broken, Narrow};
-use crate::served::counting;
-use serving::serve;
+use crate::served::{counting, outcome};
 use spaces::Space;
 use std::cell::Cell;
 use std::io::{self, ErrorKind, Read, Write};
@@ -8,11 +7,11 @@ use std::io::{self, ErrorKind, Read, Write};
 // An input that breaks: what came before is served, and the pile is given back as it is then.
 #[test]
 fn a_broken_input(rt: HostRuntime) {
-    let mut input = Broken {
+    let input = Broken {
         rest: b"$M0,1:ff#e0-$M1,1:ff#",
     };
     let mut output = Vec::new(rt.alloc());
-    let (space, result) = serve(counting(16), false, &mut input, &mut output);
+    let (space, result) = outcome(counting(16), false, input, &mut output);
     assert!(rt; result.is_err_and(|e| e.kind() == ErrorKind::BrokenPipe));
     assert!(rt; output.as_slice() == b"+$OK#9a$OK#9a".as_slice());
     assert!(rt; space.byte(0) == Ok(0xff) && space.byte(1) == Ok(1));
@@ -26,22 +25,20 @@ const EIGHT_SENT: &[u8; 64] = b"+$S05#b8+$S05#b8+$S05#b8+$S05#b8+$S05#b8+$S05#b8
 // An output that takes a byte at a time, and is full before all is sent.
 #[test]
 fn a_full_output(rt: HostRuntime) {
-    let mut input = NINE;
     let mut output = Narrow {
         bytes: [0; 64],
         count: 0,
     };
-    let (_, result) = serve(counting(16), false, &mut input, &mut output);
+    let (_, result) = outcome(counting(16), false, NINE, &mut output);
     assert!(rt; result.is_err_and(|e| e.kind() == ErrorKind::WriteZero));
     assert!(rt; output.bytes == *EIGHT_SENT);
 }
 
 #[test]
 fn an_output_with_room(rt: HostRuntime) {
-    let mut input = &NINE[..40];
     let mut bytes = [b'.'; 66];
     let mut output = bytes.as_mut_slice();
-    let (_, result) = serve(counting(16), false, &mut input, &mut output);
+    let (_, result) = outcome(counting(16), false, &NINE[..40], &mut output);
     assert!(rt; result.is_ok());
     assert!(rt; bytes.starts_with(EIGHT_SENT) && bytes.ends_with(b".."));
 }
@@ -107,7 +104,7 @@ fn a_patient_input(rt: HostRuntime) {
         (30, "+"),
         (30, ""),
     ];
-    let mut input = Patient {
+    let input = Patient {
         steps: &steps,
         next: 0,
         out: &out,
@@ -116,7 +113,7 @@ fn a_patient_input(rt: HostRuntime) {
         count: 0,
         out: &out,
     };
-    let (_, result) = serve(counting(16), false, &mut input, &mut output);
+    let (_, result) = outcome(counting(16), false, input, &mut output);
     assert!(rt; result.is_ok());
     assert!(rt; out.get() == 30);
 }

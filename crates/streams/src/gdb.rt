@@ -1,8 +1,8 @@
 use crate::cart::DUMP;
 use crate::registers::known_frame;
+use crate::served::sent;
 use carts::{RANGES, load_cart};
 use images::LimeRange;
-use serving::serve;
 use std::test::Fail;
 
 // What GDB 13.1 sent to a script that frames and sums by itself and knows four bytes at 0xffc: GDB connects, reads the four
@@ -27,10 +27,7 @@ const BEHIND: &[u8] = b"+$#00+$E01#a6$E01#a6+$E01#a6+$E01#a6\
 fn a_session_of_gdb(rt: HostRuntime) -> Result<(), Fail> {
     let mut memory = [LimeRange::default(); RANGES];
     let cart = load_cart(&DUMP, b"\0\x10", &mut memory)?;
-    let mut input = ASKED.as_slice();
-    let mut output = Vec::new(rt.alloc());
-    let (_, result) = serve(cart, true, &mut input, &mut output);
-    assert!(rt; result.is_ok());
+    let output = sent(&rt, cart, true, ASKED.as_slice());
     let rest = output
         .strip_prefix(BEFORE)
         .and_then(|sent| sent.strip_prefix(&known_frame()))

@@ -1,6 +1,6 @@
-use crate::served::counting;
+use crate::served::{counting, sent};
 use packets::REPLY;
-use serving::{serve, with_known_pc};
+use serving::with_known_pc;
 use std::process::Abort;
 use std::test::Fail;
 
@@ -74,10 +74,7 @@ fn sends(
     frame: &[u8],
     more: &[u8],
 ) {
-    let mut input = stream;
-    let mut output = Vec::new(rt.alloc());
-    let (_, result) = serve(counting(16), known_pc, &mut input, &mut output);
-    assert!(rt; result.is_ok());
+    let output = sent(rt, counting(16), known_pc, stream);
     let rest = output
         .strip_prefix(b"+")
         .and_then(|sent| sent.strip_prefix(frame));

@@ -57,7 +57,7 @@ fn tell_day<'f, S: Space + Drop>(
         Call::Answer(b"D"),
     ];
     let mut slots = [Slot::empty(); CALLS];
-    finish(replay(cart, &calls, &mut slots));
+    run(cart, &calls, &mut slots);
     for (call, slot) in calls.iter().zip(&slots) {
         tell_call(rt, *call)?;
         tell_outcome(rt, slot)?;
@@ -65,9 +65,9 @@ fn tell_day<'f, S: Space + Drop>(
     Ok(())
 }
 
-// The session is over: a reply that is still owed is answered first.
-fn finish<S: Space + Drop>(stage: Stage<S>) {
-    let waiting = match stage {
+// The calls are made over a new session. Once it is over, a reply that is still owed is answered.
+fn run<'a, S: Space + Drop>(cart: S, calls: &[Call<'a>], slots: &mut [Slot<'a>]) {
+    let waiting = match replay(cart, calls, slots) {
         Stage::Waits(waiting) => waiting,
         Stage::Owes(owing) => {
             let mut reply = Slot::empty().reply;
