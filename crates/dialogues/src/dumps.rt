@@ -1,8 +1,7 @@
 use crate::cart::range;
 use crate::talk::dialogue;
 use carts::{RANGES, cr3_in, load_cart};
-use images::LimeRange;
-use spaces::Refusal;
+use images::{LimeRange, LoadRefusal};
 use std::test::Fail;
 
 // CR3 is the first eight bytes, the lowest first, and those that are missing are zeros.
@@ -55,7 +54,7 @@ fn the_first_65536_bytes_count(rt: HostRuntime) -> Result<(), Fail> {
 }
 
 // So many ranges of one address each.
-fn ranges(rt: &HostRuntime, count: u8) -> Result<Option<Refusal>, Fail> {
+fn ranges(rt: &HostRuntime, count: u8) -> Result<Option<LoadRefusal>, Fail> {
     let mut dump = Vec::new(rt.alloc());
     for n in 0..count {
         let at = 16 * n as u64;
@@ -69,7 +68,7 @@ fn ranges(rt: &HostRuntime, count: u8) -> Result<Option<Refusal>, Fail> {
 fn at_most_64_ranges(rt: HostRuntime) -> Result<(), Fail> {
     assert_eq!(rt; ranges(&rt, 63)?, None);
     assert_eq!(rt; ranges(&rt, 64)?, None);
-    assert_eq!(rt; ranges(&rt, 65)?, Some(Refusal::TableFull));
+    assert_eq!(rt; ranges(&rt, 65)?, Some(LoadRefusal::TableFull));
     Ok(())
 }
 

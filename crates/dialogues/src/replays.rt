@@ -1,9 +1,8 @@
 use crate::piles::{counting, windowed};
 use crate::talk::{dialogue, framed, replayed};
 use packets::{Item, PAYLOAD, REPLY};
-use patchfiles::Stopped;
+use patchfiles::{PatchFileRefusal, Stopped};
 use sessions::{Call, Outcome, Slot};
-use spaces::Refusal;
 use std::process::Abort;
 
 // A place before a call: it has an outcome that no call here has.
@@ -80,7 +79,7 @@ fn calls_in_turn(rt: HostRuntime) {
         packet(b"g"),
         came(Outcome::NotAllowed),
         came(Outcome::Applied(Err(Stopped {
-            refusal: Refusal::BadLength,
+            refusal: PatchFileRefusal::BadLength,
             index: 0,
         }))),
         says(b"00ee"),

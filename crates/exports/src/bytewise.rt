@@ -1,4 +1,4 @@
-use spaces::{Edit, Fault, EditRefusal, Space};
+use spaces::{Edit, EditRefusal, Fault, Space};
 
 // A space that is filled byte by byte, by the trait's own body, however the space within fills a buffer.
 #[derive(Drop)]

@@ -56,7 +56,10 @@ module _ (file : List ℕ) where
   why room stop before HeaderCut few (inl q) = (grind (arith, nat_tests), cut (grind (arith, nat_tests)))
   why room stop before BadHeader few (inl q) = (grind (arith, nat_tests), bad (grind (arith, nat_tests)) (λ r h. grind (arith, nat_tests)))
   why room stop before _ few (inl q) = absurd (grind (arith, nat_tests))
-  why room stop before refusal few (inr (r, behind, q, o)) = let t = read_at stop r behind q in (t.inside, elim (not_added lime_bounds room before r refusal o) [
-    | inl p ↦ rw p.0 (overlapping t.header ((exact_by lime_bounds (lime_bounds r) before _ refl).0 p.1))
-    | inr p ↦ rw p.0 (full t.header (λ a. grind (arith, exact_by lime_bounds (lime_bounds r) before _ refl)) (omega (arith, p.2)))
-  ])
+  why room stop before refusal few (inr (r, behind, q, o)) = let t = read_at stop r behind q in (
+    t.inside,
+    elim (not_added lime_bounds room before r refusal o) [
+      | inl p ↦ rw p.0 (overlapping t.header ((exact_by lime_bounds (lime_bounds r) before _ refl).0 p.1))
+      | inr p ↦ rw p.0 (full t.header (λ a. grind (arith, exact_by lime_bounds (lime_bounds r) before _ refl)) (omega (arith, p.2)))
+    ],
+  )

@@ -5,10 +5,7 @@ use extents::{Extent, Table};
 
 // One step of a load, whatever the kind of its extents: an extent is added to the table unless it overlaps one that the table
 // holds, or there is no room for it; then nothing changes.
-pub(crate) fn add<E: Extent + Copy>(
-    table: &mut Table<'_, E>,
-    extent: E,
-) -> Result<(), LoadRefusal>
+pub(crate) fn add<E: Extent + Copy>(table: &mut Table<'_, E>, extent: E) -> Result<(), LoadRefusal>
     ensures { Adds E.Extent.bounds table.old table.new extent result }
 {
     if table.overlaps(&extent) {

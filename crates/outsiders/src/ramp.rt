@@ -2,7 +2,7 @@ ghost use Rattle.spaces.specs.Piles.{bottom};
 ghost use Rattle.spaces.proofs.Lawful.{bottom_lawful};
 ghost use Rattle.outsiders.specs.Shapes.{ramp};
 
-use spaces::{Edit, Fault, EditRefusal, Space, no_overlay_here};
+use spaces::{Edit, EditRefusal, Fault, Space, no_overlay_here};
 
 // Bytes that count up from 0, as many as it is long.
 #[derive(Drop)]

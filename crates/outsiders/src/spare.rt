@@ -2,7 +2,7 @@ ghost use Rattle.spaces.specs.Piles.{on, plain};
 ghost use Rattle.spaces.proofs.Lawful.{on_lawful};
 ghost use Rattle.outsiders.specs.Spares.{spare, spare_lawful};
 
-use spaces::{Edit, Fault, EditRefusal, Space, climb, edit_under};
+use spaces::{Edit, EditRefusal, Fault, Space, climb, edit_under};
 
 // A space that has a spare copy of itself: where an address has no byte, the one `offset` places further on answers.
 // It goes on after a fault, so it is no walk.

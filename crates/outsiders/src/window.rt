@@ -2,7 +2,7 @@ ghost use Rattle.spaces.specs.Piles.{on, walking};
 ghost use Rattle.spaces.proofs.Walking.{walking_lawful};
 ghost use Rattle.outsiders.specs.Shapes.{window};
 
-use spaces::{Edit, Fault, EditRefusal, Space, climb, edit_under};
+use spaces::{Edit, EditRefusal, Fault, Space, climb, edit_under};
 
 // A part of the space below, shown from address 0 on.
 #[derive(Drop)]

@@ -4,7 +4,7 @@ ghost use Rattle.spaces.proofs.Lawful.{on_lawful};
 ghost use Rattle.overlays.specs.Tables.{held, held_lawful};
 
 use crate::table::PatchTable;
-use spaces::{Edit, Fault, EditRefusal, Space, climb, fill_below, most};
+use spaces::{Edit, EditRefusal, Fault, Space, climb, fill_below, most};
 
 // A layer of patches over the space below.
 #[derive(Drop)]

@@ -6,9 +6,9 @@ ghost use Rattle.packets.specs.Commands.{meant_by};
 ghost use Rattle.packets.specs.Asking.{addresses, read_of, write_of, all_digits, query, setting};
 
 use crate::command::Command;
+use crate::command_refusal::CommandRefusal;
 use crate::digits::{byte, number};
 use crate::split::split_once;
-use crate::command_refusal::CommandRefusal;
 
 // An address and a number of addresses, with a comma between.
 fn addresses(text: &[u8]) -> Option<(u64, u64)>
@@ -85,6 +85,8 @@ pub(crate) fn setting(payload: &[u8]) -> Result<Command<'_>, CommandRefusal>
     let Some(digits) = payload.strip_prefix(b"Qaisle.depth:") else {
         return Ok(Command::Unknown);
     };
-    let digits = <[u8; 2]>::try_from(digits).ok().ok_or(CommandRefusal::BadForm)?;
+    let digits = <[u8; 2]>::try_from(digits)
+        .ok()
+        .ok_or(CommandRefusal::BadForm)?;
     Ok(Command::Depth(byte(digits).ok_or(CommandRefusal::BadForm)?))
 }

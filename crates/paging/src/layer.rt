@@ -5,7 +5,7 @@ ghost use Rattle.paging.specs.Layers.{paging_on, paging_lawful, Translated, Edit
 use crate::scheme::Scheme;
 use crate::translation::Translation;
 use crate::walk::{byte_below, walk};
-use spaces::{Edit, Fault, EditRefusal, Space, Watched, edit_under, fill_below, most, watched_set};
+use spaces::{Edit, EditRefusal, Fault, Space, Watched, edit_under, fill_below, most, watched_set};
 
 // A space as the tables in the space below show it, from the root table by CR3 on.
 #[derive(Drop)]

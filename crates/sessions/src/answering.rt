@@ -76,11 +76,7 @@ impl<S: Space> Session<S> {
     }
 
     // Does what a payload asks for, and writes the text of the reply, unless the payload is refused.
-    fn reply(
-        &mut self,
-        payload: &[u8],
-        text: &mut [u8; PAYLOAD],
-    ) -> Result<usize, PayloadRefusal>
+    fn reply(&mut self, payload: &[u8], text: &mut [u8; PAYLOAD]) -> Result<usize, PayloadRefusal>
         ensures { Replies (state S.Space.meaning self.old) payload.now (state S.Space.meaning self.new) text.new result }
     {
         let command = Command::parse(payload)?;

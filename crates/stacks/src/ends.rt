@@ -1,6 +1,6 @@
 use outsiders::Ramp;
 use overlays::Overlay;
-use spaces::{Fault, EditRefusal, Space};
+use spaces::{EditRefusal, Fault, Space};
 
 const LAST: u64 = u64::MAX;
 

@@ -1,6 +1,6 @@
 use outsiders::{Ramp, Spare, Window, byte_in_window, patch_under_window};
 use overlays::Overlay;
-use spaces::{Fault, EditRefusal, Space, locate, watched_set};
+use spaces::{EditRefusal, Fault, Space, locate, watched_set};
 
 // From the top: overlay, spare copy 8 places on, overlay, window on addresses 4 to 19, overlay, sixteen bytes that count up.
 fn pile() -> Overlay<Spare<Overlay<Window<Overlay<Ramp>>>>> {

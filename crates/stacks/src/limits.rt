@@ -17,7 +17,10 @@ fn at_256_one_more_is_refused(rt: HostRuntime) -> Result<(), Fail> {
     assert_eq!(rt; space.set(0, 256, &[9]), Err(EditRefusal::TooManyPatches));
     assert_eq!(rt; space.byte(255), Ok(7));
     assert_eq!(rt; space.byte(256), Ok(0));
-    assert_eq!(rt; space.set(0, 100, &[9; 200]), Err(EditRefusal::TooManyPatches));
+    assert_eq!(rt;
+        space.set(0, 100, &[9; 200]),
+        Err(EditRefusal::TooManyPatches)
+    );
     assert_eq!(rt; space.byte(100), Ok(7));
     Ok(())
 }
@@ -39,7 +42,10 @@ fn at_256_replacing_is_accepted(rt: HostRuntime) -> Result<(), Fail> {
 #[test]
 fn at_255_old_and_new_are_counted(rt: HostRuntime) -> Result<(), Fail> {
     let mut space = patched(255)?;
-    assert_eq!(rt; space.set(0, 254, &[1, 2, 3]), Err(EditRefusal::TooManyPatches));
+    assert_eq!(rt;
+        space.set(0, 254, &[1, 2, 3]),
+        Err(EditRefusal::TooManyPatches)
+    );
     assert_eq!(rt; space.byte(254), Ok(7));
     assert_eq!(rt; space.byte(255), Ok(255));
     assert_eq!(rt; space.set(0, 254, &[1, 2]), Ok(()));

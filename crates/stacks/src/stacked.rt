@@ -1,6 +1,6 @@
 use outsiders::Ramp;
 use overlays::Overlay;
-use spaces::{Fault, EditRefusal, Space};
+use spaces::{EditRefusal, Fault, Space};
 
 // Three overlays over eight bytes that count up.
 fn three() -> Overlay<Overlay<Overlay<Ramp>>> {

@@ -1,6 +1,6 @@
 use outsiders::Ramp;
 use overlays::Overlay;
-use spaces::{Fault, EditRefusal, Space};
+use spaces::{EditRefusal, Fault, Space};
 use std::process::Abort;
 use std::test::Fail;
 

@@ -1,5 +1,5 @@
 use outsiders::{Ramp, Window};
-use spaces::{Fault, EditRefusal, Space};
+use spaces::{EditRefusal, Fault, Space};
 
 // The last four bytes of a ramp of ten, and two addresses behind them, through two windows.
 fn stacked() -> Window<Window<Ramp>> {

@@ -1,7 +1,7 @@
 use outsiders::Ramp;
 use overlays::Overlay;
 use paging::{Paging, Scheme, Translation};
-use spaces::{Fault, EditRefusal, Space};
+use spaces::{EditRefusal, Fault, Space};
 use std::process::Abort;
 
 // Memory that has the bytes laid on it and no others. Any other is absent with cause 0x77, two below a paging.
@@ -113,7 +113,11 @@ impl<P: Scheme + Copy, E: Entry> Way<'_, P, E> {
     }
 
     // A missing byte of an entry breaks the walk.
-    pub(crate) fn breaks_at_bytes(&self, rt: &impl Abort, places: &[u64]) -> Result<(), EditRefusal> {
+    pub(crate) fn breaks_at_bytes(
+        &self,
+        rt: &impl Abort,
+        places: &[u64],
+    ) -> Result<(), EditRefusal> {
         for place in places {
             let mut board = laid(self.tables)?;
             board.clear(0, *place, 1)?;

@@ -1,6 +1,6 @@
 use crate::boards::{Board, ENTRIES, KIB_4, WAY, fault, goes, laid};
 use paging::{FourLevel, Paging};
-use spaces::{Fault, EditRefusal, Space, Watched};
+use spaces::{EditRefusal, Fault, Space, Watched};
 use std::test::Fail;
 
 // The way leads to the page at 0x9000, which has an `x` at 0x567; the page at 0xa000 has a `y` there.
@@ -16,16 +16,25 @@ fn edits_are_made_below(rt: HostRuntime) -> Result<(), Fail> {
     let mut paging = Paging::new(FourLevel, 0x1000, tables()?);
     for depth in [0, 2] {
         assert_eq!(rt; paging.set(depth, WAY, b"z"), Err(EditRefusal::NoOverlay));
-        assert_eq!(rt; paging.set(depth, 0x9567, b"z"), Err(EditRefusal::NoOverlay));
+        assert_eq!(rt;
+            paging.set(depth, 0x9567, b"z"),
+            Err(EditRefusal::NoOverlay)
+        );
         assert_eq!(rt; paging.clear(depth, 0x9567, 1), Err(EditRefusal::NoOverlay));
-        assert_eq!(rt; paging.clear(depth, 1, u64::MAX), Err(EditRefusal::NoOverlay));
+        assert_eq!(rt;
+            paging.clear(depth, 1, u64::MAX),
+            Err(EditRefusal::NoOverlay)
+        );
     }
     for depth in [0, 1, 2] {
         assert_eq!(rt;
             paging.set(depth, u64::MAX, b"zz"),
             Err(EditRefusal::PastTheEnd)
         );
-        assert_eq!(rt; paging.clear(depth, 2, u64::MAX), Err(EditRefusal::PastTheEnd));
+        assert_eq!(rt;
+            paging.clear(depth, 2, u64::MAX),
+            Err(EditRefusal::PastTheEnd)
+        );
     }
     assert_eq!(rt; paging.byte(WAY), Ok(b'x'));
     // at depth 1 an address is one below, so it is not led through the tables

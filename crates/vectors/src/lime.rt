@@ -1,10 +1,10 @@
 use crate::dumps::{byte, fault, header, loaded, range};
 use extents::Table;
-use images::{LimeRange, NotLoaded, load_lime};
-use spaces::{Numbered, Refusal};
+use images::{LimeRange, LoadRefusal, NotLoaded, load_lime};
+use numbers::Numbered;
 use std::test::Fail;
 
-fn refused(refusal: Refusal, place: usize, written: usize) -> Result<usize, NotLoaded> {
+fn refused(refusal: LoadRefusal, place: usize, written: usize) -> Result<usize, NotLoaded> {
     Err(NotLoaded {
         refusal,
         place,
@@ -15,10 +15,10 @@ fn refused(refusal: Refusal, place: usize, written: usize) -> Result<usize, NotL
 #[test]
 fn refusals_have_their_numbers(rt: HostRuntime) {
     let cases = [
-        (Refusal::HeaderCut, 0x30),
-        (Refusal::BadHeader, 0x31),
-        (Refusal::Overlap, 0x34),
-        (Refusal::TableFull, 0x35),
+        (LoadRefusal::HeaderCut, 0x30),
+        (LoadRefusal::BadHeader, 0x31),
+        (LoadRefusal::Overlap, 0x34),
+        (LoadRefusal::TableFull, 0x35),
     ];
     for (refusal, number) in cases {
         assert_eq!(rt; refusal.number(), number);
@@ -30,10 +30,13 @@ fn headers_are_cut(rt: HostRuntime) -> Result<(), Fail> {
     let mut file = Vec::new(rt.alloc());
     range(&mut file, 0, 3, b"abcd")?;
     assert!(rt; file.len() == 36);
-    assert_eq!(rt; loaded(&file[0..31], 8), refused(Refusal::HeaderCut, 0, 0));
+    assert_eq!(rt;
+        loaded(&file[0..31], 8),
+        refused(LoadRefusal::HeaderCut, 0, 0)
+    );
     assert_eq!(rt; loaded(&file[0..32], 8), Ok(1));
     file.push(b'E')?;
-    assert_eq!(rt; loaded(&file, 8), refused(Refusal::HeaderCut, 36, 1));
+    assert_eq!(rt; loaded(&file, 8), refused(LoadRefusal::HeaderCut, 36, 1));
     Ok(())
 }
 
@@ -41,16 +44,19 @@ fn headers_are_cut(rt: HostRuntime) -> Result<(), Fail> {
 fn headers_are_bad(rt: HostRuntime) -> Result<(), Fail> {
     let mut second = Vec::new(rt.alloc());
     header(&mut second, 2, 0, 3)?;
-    assert_eq!(rt; loaded(&second, 8), refused(Refusal::BadHeader, 0, 0));
+    assert_eq!(rt; loaded(&second, 8), refused(LoadRefusal::BadHeader, 0, 0));
     let mut backward = Vec::new(rt.alloc());
     range(&mut backward, 7, 7, b"x")?;
     header(&mut backward, 1, 4, 3)?;
-    assert_eq!(rt; loaded(&backward, 8), refused(Refusal::BadHeader, 33, 1));
+    assert_eq!(rt;
+        loaded(&backward, 8),
+        refused(LoadRefusal::BadHeader, 33, 1)
+    );
     let mut magic = Vec::new(rt.alloc());
     range(&mut magic, 0, 3, b"abcd")?;
     assert!(rt; magic.len() == 36);
     magic[0] = b'L';
-    assert_eq!(rt; loaded(&magic, 8), refused(Refusal::BadHeader, 0, 0));
+    assert_eq!(rt; loaded(&magic, 8), refused(LoadRefusal::BadHeader, 0, 0));
     Ok(())
 }
 
@@ -59,10 +65,10 @@ fn ranges_overlap(rt: HostRuntime) -> Result<(), Fail> {
     let mut file = Vec::new(rt.alloc());
     range(&mut file, 0, 9, b"0123456789")?;
     range(&mut file, 9, 12, b"9abc")?;
-    assert_eq!(rt; loaded(&file, 8), refused(Refusal::Overlap, 42, 1));
+    assert_eq!(rt; loaded(&file, 8), refused(LoadRefusal::Overlap, 42, 1));
     assert_eq!(rt;
         loaded(&file, 1),
-        refused(Refusal::Overlap, 42, 1),
+        refused(LoadRefusal::Overlap, 42, 1),
         "34 before 35"
     );
     let mut bad = Vec::new(rt.alloc());
@@ -70,7 +76,7 @@ fn ranges_overlap(rt: HostRuntime) -> Result<(), Fail> {
     header(&mut bad, 2, 9, 12)?;
     assert_eq!(rt;
         loaded(&bad, 1),
-        refused(Refusal::BadHeader, 42, 1),
+        refused(LoadRefusal::BadHeader, 42, 1),
         "31 before 34 and 35"
     );
     Ok(())
@@ -91,7 +97,7 @@ fn tables_are_full(rt: HostRuntime) -> Result<(), Fail> {
     let mut table = Table::new(&mut memory[0..2]);
     assert_eq!(rt;
         load_lime(&file, &mut table),
-        refused(Refusal::TableFull, 66, 2)
+        refused(LoadRefusal::TableFull, 66, 2)
     );
     assert_eq!(rt;
         table.get(1),

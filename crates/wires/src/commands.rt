@@ -1,5 +1,5 @@
+use numbers::Numbered;
 use packets::Command;
-use spaces::Numbered;
 use std::process::Abort;
 
 fn read(first: u64, count: u64) -> Command<'static> {

@@ -7,7 +7,7 @@ ghost use Rattle.overlays.specs.Tables.{held};
 
 use crate::table::PatchTable;
 use arrayvec::{ArrayVec, CapacityError};
-use spaces::{Edit, Patch, EditRefusal};
+use spaces::{Edit, EditRefusal, Patch};
 
 impl PatchTable {
     // Patches consecutive addresses, unless more than 256 would be patched.
