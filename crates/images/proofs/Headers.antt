@@ -4,9 +4,8 @@ use Rattle.std.proofs.lemmas.Bool.Decides.{nat_tests}
 use Rattle.extents.specs.declared.table.Table.{Table}
 use Rattle.extents.specs.Tables.{held, room}
 use Rattle.extents.proofs.Searching.{exact_by}
-use Rattle.endian.specs.Little.{number_at}
 use Rattle.images.specs.declared.refusal.LoadRefusal.{LoadRefusal}
-use Rattle.images.specs.declared.refusal.LoadRefusal.TheVariants.{HeaderCut, BadHeader, Overlap, TableFull}
+use Rattle.images.specs.declared.refusal.LoadRefusal.TheVariants.{HeaderCut, BadHeader}
 use Rattle.images.specs.declared.range.LimeRange.{LimeRange}
 use Rattle.images.specs.Kinds.{lime_bounds}
 use Rattle.images.specs.Steps.{no_header, header_of, as_next}

@@ -1,9 +1,9 @@
-use Rattle.std.proofs.Common.{◌≡◌, ℕ, suc, ◌+◌, ◌<◌, ◌≤◌, ◌^◌, min, List, [], ◌∷◌, length, take, drop, Some, None, Ok, Option, refl, ap, ◌∙◌, sym, subst, inl, inr, is_some, true, arith, length-append, length-take, take_all}
+use Rattle.std.proofs.Common.{◌≡◌, ℕ, ◌+◌, ◌<◌, ◌≤◌, ◌^◌, min, List, [], ◌∷◌, length, take, drop, Some, None, Ok, Option, refl, ap, ◌∙◌, sym, subst, inl, inr, is_some, true, arith, length-append, length-take, take_all}
 use Rattle.std.proofs.lemmas.Bool.{cases_lt}
 use Rattle.std.proofs.lemmas.List.{take_at, take_min}
 use Rattle.std.proofs.lemmas.Bool.Decides.{nat_tests}
 use Rattle.spaces.specs.declared.refusal.EditRefusal.{EditRefusal}
-use Rattle.spaces.specs.Patches.{Patches, laid}
+use Rattle.spaces.specs.Patches.{Patches}
 use Rattle.spaces.specs.Piles.{Pile}
 use Rattle.spaces.specs.Edits.{setting, edit, judged, patches_at, refusal, edited, edit_at, unless, Outcome, outcome, Edits}
 use Rattle.spaces.proofs.Laying.{length_laid}
@@ -11,7 +11,6 @@ use Rattle.packets.specs.Digits.{paired, Places}
 use Rattle.packets.specs.Commands.{write}
 use Rattle.patchfiles.specs.Runs.{Mark, refused, marked, left_by}
 use Rattle.sessions.specs.States.{State}
-use Rattle.sessions.specs.declared.refusal.PayloadRefusal.TheVariants as why
 use Rattle.sessions.specs.Answers.{done, told, after_asked}
 
 -- Of many bytes 257 decide whether a set is refused.

@@ -1,4 +1,4 @@
-use Rattle.std.proofs.Common.{◌≡◌, Some, None, Ok, Err, IsOk, refl, subst, sym, arith}
+use Rattle.std.proofs.Common.{◌≡◌, Some, None, Ok, Err, refl, subst, sym, arith}
 use Rattle.sessions.specs.declared.refusal.PayloadRefusal.TheVariants.{Edit}
 use Rattle.sessions.specs.States.{State}
 use Rattle.sessions.specs.Sessions.{state}
