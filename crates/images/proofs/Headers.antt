@@ -1,5 +1,4 @@
 use Rattle.std.proofs.Common.{◌≡◌, ℕ, ◌-◌, ◌<◌, ◌≤◌, min, List, length, inl, inr, refl, sym, ◌∙◌, arith}
-use Rattle.std.proofs.lemmas.Bool.{cases_lt}
 use Rattle.std.proofs.lemmas.Bool.Decides.{nat_tests}
 use Rattle.extents.specs.declared.table.Table.{Table}
 use Rattle.extents.specs.Tables.{held, room}
@@ -8,10 +7,10 @@ use Rattle.images.specs.declared.refusal.LoadRefusal.{LoadRefusal}
 use Rattle.images.specs.declared.refusal.LoadRefusal.TheVariants.{HeaderCut, BadHeader}
 use Rattle.images.specs.declared.range.LimeRange.{LimeRange}
 use Rattle.images.specs.Kinds.{lime_bounds}
-use Rattle.images.specs.Steps.{no_header, header_of, as_next}
+use Rattle.images.specs.Steps.{no_header, header_of, as_next, load_from}
 use Rattle.images.specs.Lime.{header_at, end_of, lime_header}
 use Rattle.images.specs.Shows.{Header, Leads, here, range, Why, cut, bad, overlapping, full}
-use Rattle.images.proofs.Loading.{at_end, Underway, not_added}
+use Rattle.images.proofs.Loading.{step, Underway, not_added}
 use Rattle.images.proofs.Walking.{Follow, RefusedAt}
 use Rattle.images.proofs.Walking as walks
 
@@ -25,15 +24,11 @@ module _ (file : List ℕ) where
 
   -- a place behind the file's end is as good as the end
   pub clamped : (t u : Table LimeRange) (place : ℕ) → Underway lime_bounds (lime_header file) 0 t u place → Underway lime_bounds (lime_header file) 0 t u (min place (length file))
-  clamped t u place s = elim (cases_lt place (length file)) [
-    | inl h ↦ let e : min place (length file) ≡ place = omega arith in rw e s
-    | inr h ↦
-        let n : ℕ = room t - length (held u) in
-        let here = at_end lime_bounds (lime_header file) place (held u) n (ends_at place h) in
-        let e : min place (length file) ≡ length file = omega arith in
-        let end = at_end lime_bounds (lime_header file) (length file) (held u) n (ends_at (length file) (omega arith)) in
-        rw e (record { few = s.few; table = s.table; same = s.same ∙ here ∙ sym end })
-  ]
+  clamped t u place s =
+      let n : ℕ = room t - length (held u) in
+      let same : load_from lime_bounds (lime_header file) n (min place (length file)) (held u) ≡ load_from lime_bounds (lime_header file) n place (held u) =
+      grind (arith, step lime_bounds (lime_header file), ends_at) in
+      record { few = s.few; table = s.table; same = s.same ∙ sym same }
 
   -- a header that is read
   pub record Read (place : ℕ) (r : LimeRange) (behind : ℕ) : Type 0 where

@@ -6,8 +6,8 @@ use Rattle.extents.specs.Tables.{overlaps_any}
 use Rattle.images.specs.declared.refusal.LoadRefusal.{LoadRefusal}
 use Rattle.images.specs.Images.{Apart}
 use Rattle.images.specs.Loads.{Load}
-use Rattle.images.specs.Steps.{NextHeader, no_header, refused_header, header_of, addition_refusal, load_from}
-use Rattle.images.proofs.Loading.{Free, at_end, at_refused, at_overlap, at_full, at_extent}
+use Rattle.images.specs.Steps.{NextHeader, no_header, refused_header, header_of, addition_refusal, load_by, load_from}
+use Rattle.images.proofs.Loading.{Free, onward, step}
 use Rattle.images.proofs.Separate.{apart_push}
 
 -- What a load of any kind of extents has read.
@@ -22,7 +22,7 @@ module _ {E : Type 0} (bounds : E → Bounds) (header : ℕ → NextHeader E) wh
   follow_push (then p f) q = then p (follow_push f q)
 
   module _ (room : ℕ) where
-    -- why a load ends at a place behind these extents: a header is refused there, or its extent is
+    -- a load ends at a place behind these extents: nothing more is there, or a header is refused, or its extent is not added
     abbrev pub RefusedAt : List E → ℕ → LoadRefusal → Type 0
     RefusedAt es stop refusal = (header stop ≡ refused_header refusal)
         ⊎ ((e : E) × (behind : ℕ) × (header stop ≡ header_of e behind) × (addition_refusal bounds room es e ≡ Some refusal))
@@ -39,29 +39,29 @@ module _ {E : Type 0} (bounds : E → Bounds) (header : ℕ → NextHeader E) wh
       pub ends : Ends load.extents stop load.refused
 
     module _ (start place : ℕ) (before : List E) (f : Follow start before place) (few : length before ≤ room) (s : Apart bounds before) where
-      reads_to : (o : Option (LoadRefusal × ℕ)) → Ends before place o → Reads start (record { extents = before; refused = o })
-      reads_to o e = record { stop = place; follow = f; few = few; apart = s; ends = e }
+      ends_here : (o : Option (LoadRefusal × ℕ)) → Ends before place o → Reads start (record { extents = before; refused = o })
+      ends_here o e = record { stop = place; follow = f; few = few; apart = s; ends = e }
 
-      -- unless one more extent is free, the load is at its end
-      reads_or : (n : ℕ) → ((e : E) (behind : ℕ) → header place ≡ header_of e behind → Free bounds before e → Reads start (load_from bounds header n place before))
+      -- from there on, where one extent more may be there
+      reads_on : (n : ℕ) → ((e : E) (behind : ℕ) → header place ≡ header_of e behind → Free bounds before e → Reads start (onward bounds header n place before e behind))
           → Reads start (load_from bounds header n place before)
-      reads_or n more = step (header place) refl
+      reads_on n more = rw (step bounds header n place before) (by_header (header place) refl)
         where
-          over : (e : E) (behind : ℕ) → header place ≡ header_of e behind → (b : Bool) → overlaps_any bounds before (bounds e) ≡ b → Reads start (load_from bounds header n place before)
-          over e behind q true o = rw (at_overlap bounds header place before e behind q n o) (reads_to _ (refl, inr (e, behind, q, rw o refl)))
-          over e behind q false o = more e behind q o
+          by_overlap : (e : E) (behind : ℕ) → header place ≡ header_of e behind → (b : Bool) → overlaps_any bounds before (bounds e) ≡ b
+              → Reads start (load_by bounds (header_of e behind) place before (onward bounds header n place before))
+          by_overlap e behind q true o = rw o (ends_here _ (refl, inr (e, behind, q, rw o refl)))
+          by_overlap e behind q false o = rw o (more e behind q o)
 
-          step : (w : NextHeader E) → header place ≡ w → Reads start (load_from bounds header n place before)
-          step no_header q = rw (at_end bounds header place before n q) (reads_to None q)
-          step (refused_header r) q = rw (at_refused bounds header place before n r q) (reads_to _ (refl, inl q))
-          step (header_of e behind) q = over e behind q (overlaps_any bounds before (bounds e)) refl
+          by_header : (w : NextHeader E) → header place ≡ w → Reads start (load_by bounds w place before (onward bounds header n place before))
+          by_header no_header q = ends_here None q
+          by_header (refused_header r) q = ends_here _ (refl, inl q)
+          by_header (header_of e behind) q = by_overlap e behind q (overlaps_any bounds before (bounds e)) refl
 
     reads_from : (start n place : ℕ) (before : List E) → Follow start before place → Apart bounds before → length before + n ≡ room → Reads start (load_from bounds header n place before)
-    reads_from start zero place before f s k = reads_or start place before f (omega arith) s zero (λ e behind q o.
-        rw (at_full bounds header place before e behind q zero refl o) (reads_to start place before f (omega arith) s _ (refl, inr (e, behind, q, grind (arith, nat_tests)))))
-    reads_from start (suc n) place before f s k = reads_or start place before f (omega arith) s (suc n) (λ e behind q o.
-        rw (at_extent bounds header place before e behind q (suc n) n refl o)
-        (reads_from start n behind (before ++ (e ∷ [])) (follow_push f q) (apart_push bounds before e s o) (grind (arith, common_steps))))
+    reads_from start zero place before f s k = reads_on start place before f (omega arith) s zero (λ e behind q o.
+        ends_here start place before f (omega arith) s _ (refl, inr (e, behind, q, grind (arith, nat_tests))))
+    reads_from start (suc n) place before f s k = reads_on start place before f (omega arith) s (suc n) (λ e behind q o.
+        reads_from start n behind (before ++ (e ∷ [])) (follow_push f q) (apart_push bounds before e s o) (grind (arith, common_steps)))
 
     pub reads : (start : ℕ) → Reads start (load_from bounds header room start [])
     reads start = reads_from start room start [] here (grind arith) (omega arith)
