@@ -1,7 +1,7 @@
 use outsiders::Ramp;
 use overlays::Overlay;
 use paging::{Paging, Scheme, Translation};
-use spaces::{EditRefusal, Fault, Space};
+use spaces::{Fault, Refusal, Space};
 use std::process::Abort;
 
 // Memory that has the bytes laid on it and no others. Any other is absent with cause 0x77, two below a paging.
@@ -27,50 +27,14 @@ pub(crate) const ENTRIES: [(u64, u64); 4] = [
     (0x4020, 0x9003),
 ];
 
-// An entry of a page table, which lies there with its lowest byte first.
-pub(crate) trait Entry: Copy {
-    fn lay(self, board: &mut Board, at: u64) -> Result<(), EditRefusal>;
-}
+// A fault's depth, address and cause. The cases of a test are constants, which call no function.
+pub(crate) type Missing = (u8, u64, u8);
 
-impl Entry for u32 {
-    fn lay(self, board: &mut Board, at: u64) -> Result<(), EditRefusal> {
-        board.set(0, at, &self.to_le_bytes())
-    }
-}
-
-impl Entry for u64 {
-    fn lay(self, board: &mut Board, at: u64) -> Result<(), EditRefusal> {
-        board.set(0, at, &self.to_le_bytes())
-    }
-}
-
-// The bytes of an entry as they lie.
-impl<const N: usize> Entry for [u8; N] {
-    fn lay(self, board: &mut Board, at: u64) -> Result<(), EditRefusal> {
-        board.set(0, at, &self)
-    }
-}
-
-// Lays entries, each at its address.
-pub(crate) fn lay<E: Entry>(board: &mut Board, entries: &[(u64, E)]) -> Result<(), EditRefusal> {
-    for (at, entry) in entries {
-        entry.lay(board, *at)?;
-    }
-    Ok(())
-}
-
-pub(crate) fn laid<E: Entry>(entries: &[(u64, E)]) -> Result<Board, EditRefusal> {
-    let mut board = Overlay::new(Ramp { length: 0 });
-    lay(&mut board, entries)?;
-    Ok(board)
-}
-
-pub(crate) fn goes(address: u64, size: u64) -> Result<Translation, Fault> {
-    Ok(Translation { address, size })
-}
+// A final address and the size of its page, or what is missing on the way.
+pub(crate) type Place = Result<(u64, u64), Missing>;
 
 // Each crate of tests has such a function of its own, as short as its tests want it.
-pub(crate) fn fault(depth: u8, address: u64, cause: u8) -> Fault {
+pub(crate) fn fault((depth, address, cause): Missing) -> Fault {
     Fault {
         depth,
         address,
@@ -78,63 +42,158 @@ pub(crate) fn fault(depth: u8, address: u64, cause: u8) -> Fault {
     }
 }
 
-// Tables that lead an address to a page.
-#[derive(Clone, Copy)]
-pub(crate) struct Way<'a, P, E> {
-    pub scheme: P,
-    pub cr3: u64,
-    pub at: u64,
-    pub tables: &'a [(u64, E)],
+pub(crate) fn goes(place: Place) -> Result<Translation, Fault> {
+    match place {
+        Ok((address, size)) => Ok(Translation { address, size }),
+        Err(missing) => Err(fault(missing)),
+    }
 }
 
-impl<P: Scheme + Copy, E: Entry> Way<'_, P, E> {
+// An entry of a page table, which lies there with its lowest byte first.
+pub(crate) trait Entry: Copy {
+    fn lay(self, board: &mut Board, at: u64) -> Result<(), Refusal>;
+}
+
+impl Entry for u32 {
+    fn lay(self, board: &mut Board, at: u64) -> Result<(), Refusal> {
+        board.set(0, at, &self.to_le_bytes())
+    }
+}
+
+impl Entry for u64 {
+    fn lay(self, board: &mut Board, at: u64) -> Result<(), Refusal> {
+        board.set(0, at, &self.to_le_bytes())
+    }
+}
+
+// The bytes of an entry as they lie.
+impl<const N: usize> Entry for [u8; N] {
+    fn lay(self, board: &mut Board, at: u64) -> Result<(), Refusal> {
+        board.set(0, at, &self)
+    }
+}
+
+// Lays entries, each at its address.
+pub(crate) fn lay<E: Entry>(board: &mut Board, entries: &[(u64, E)]) -> Result<(), Refusal> {
+    for (at, entry) in entries {
+        entry.lay(board, *at)?;
+    }
+    Ok(())
+}
+
+pub(crate) fn laid<E: Entry>(entries: &[(u64, E)]) -> Result<Board, Refusal> {
+    let mut board = Overlay::new(Ramp { length: 0 });
+    lay(&mut board, entries)?;
+    Ok(board)
+}
+
+// Page tables, and how they are read.
+#[derive(Clone, Copy)]
+pub(crate) struct Tables<'a, P, E> {
+    scheme: P,
+    cr3: u64,
+    entries: &'a [(u64, E)],
+}
+
+impl<'a, P: Scheme + Copy, E: Entry> Tables<'a, P, E> {
+    pub(crate) fn new(scheme: P, cr3: u64, entries: &'a [(u64, E)]) -> Self {
+        Tables {
+            scheme,
+            cr3,
+            entries,
+        }
+    }
+
     pub(crate) fn over(&self, board: Board) -> Paging<P, Board> {
         Paging::new(self.scheme, self.cr3, board)
     }
 
-    pub(crate) fn paging(&self) -> Result<Paging<P, Board>, EditRefusal> {
-        Ok(self.over(laid(self.tables)?))
+    pub(crate) fn paging(&self) -> Result<Paging<P, Board>, Refusal> {
+        Ok(self.over(laid(self.entries)?))
     }
 
-    // An entry with every bit but bit 0, without which it is not present, breaks the walk with the cause of its level.
-    pub(crate) fn breaks_at_entries(
+    // Each address goes where it should, or has the fault that it should.
+    pub(crate) fn lead(&self, rt: &impl Abort, cases: &[(u64, Place)]) -> Result<(), Refusal> {
+        let paging = self.paging()?;
+        for (at, place) in cases {
+            assert_eq!(rt; paging.translate(*at), goes(*place));
+        }
+        Ok(())
+    }
+
+    // An entry with every bit but bit 0, without which it is not present, breaks the walk of an address with the cause of its
+    // level.
+    pub(crate) fn break_at_entries(
         &self,
         rt: &impl Abort,
+        at: u64,
         absent: &[u8],
         entries: &[(u64, u8)],
-    ) -> Result<(), EditRefusal> {
+    ) -> Result<(), Refusal> {
         for (place, cause) in entries {
-            let mut board = laid(self.tables)?;
+            let mut board = laid(self.entries)?;
             board.set(0, *place, absent)?;
-            let expected = Err(fault(0, self.at, *cause));
-            assert_eq!(rt; self.over(board).translate(self.at), expected);
+            assert_eq!(rt; self.over(board).translate(at), Err(fault((0, at, *cause))));
         }
         Ok(())
     }
 
     // A missing byte of an entry breaks the walk.
-    pub(crate) fn breaks_at_bytes(
+    pub(crate) fn break_at_bytes(
         &self,
         rt: &impl Abort,
+        at: u64,
         places: &[u64],
-    ) -> Result<(), EditRefusal> {
+    ) -> Result<(), Refusal> {
         for place in places {
-            let mut board = laid(self.tables)?;
+            let mut board = laid(self.entries)?;
             board.clear(0, *place, 1)?;
-            let expected = Err(fault(2, *place, 0x77));
-            assert_eq!(rt; self.over(board).translate(self.at), expected);
+            assert_eq!(rt;
+                self.over(board).translate(at),
+                Err(fault((2, *place, 0x77)))
+            );
         }
+        Ok(())
+    }
+
+    // An entry is read whole, the lowest byte first, before anything of it counts: bit 0 of one is clear, and the first of
+    // some bytes of it that are missing is the fault.
+    pub(crate) fn break_whole(
+        &self,
+        rt: &impl Abort,
+        at: u64,
+        entry: u64,
+        first: u64,
+        count: u64,
+    ) -> Result<(), Refusal> {
+        let mut board = laid(self.entries)?;
+        board.set(0, entry, b"\xfe")?;
+        board.clear(0, first, count)?;
+        assert_eq!(rt;
+            self.over(board).translate(at),
+            Err(fault((2, first, 0x77)))
+        );
         Ok(())
     }
 }
 
-// Each address goes where it should, or has the fault that it should.
-pub(crate) fn translates<P: Scheme>(
+// Each address has its byte, or the fault that it should.
+pub(crate) fn show<S: Space>(rt: &impl Abort, space: &S, cases: &[(u64, Result<u8, Missing>)]) {
+    for (at, byte) in cases {
+        assert_eq!(rt; space.byte(*at), byte.map_err(fault));
+    }
+}
+
+// A read of eight bytes from each address gives so many, and then the fault that it should. What it does not reach of the
+// buffer stays dots.
+pub(crate) fn fill<S: Space>(
     rt: &impl Abort,
-    paging: &Paging<P, Board>,
-    cases: &[(u64, Result<Translation, Fault>)],
+    space: &S,
+    cases: &[(u64, usize, Option<Missing>, [u8; 8])],
 ) {
-    for (at, expected) in cases {
-        assert_eq!(rt; paging.translate(*at), *expected);
+    for (first, count, missing, bytes) in cases {
+        let mut out = *b"........";
+        assert_eq!(rt; space.fill(*first, &mut out), (*count, missing.map(fault)));
+        assert_eq!(rt; out, *bytes);
     }
 }

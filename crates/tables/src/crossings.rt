@@ -1,4 +1,4 @@
-use crate::boards::{Board, GIB_1, KIB_4, MIB_2, fault, laid, lay};
+use crate::boards::{Board, GIB_1, KIB_4, MIB_2, Missing, fill, laid, lay};
 use outsiders::Ramp;
 use overlays::Overlay;
 use paging::{FourLevel, Paging};
@@ -20,6 +20,28 @@ const TABLES: [(u64, u64); 10] = [
     (0x4010, 0x7002),
 ];
 
+// Over the edge of each size.
+const EDGES: [(u64, usize, Option<Missing>, [u8; 8]); 3] = [
+    (KIB_4 - 3, 5, Some((2, 0x8002, 0x77)), *b"abcde..."),
+    (2 * MIB_2 - 3, 5, Some((2, 0x60_0002, 0x77)), *b"abcde..."),
+    (2 * GIB_1 - 3, 5, Some((2, 0x8000_0002, 0x77)), *b"abcde..."),
+];
+
+// A fault in the middle of a page ends the read, whatever lies behind it.
+const MIDDLES: [(u64, usize, Option<Missing>, [u8; 8]); 4] = [
+    (0xffc, 0, Some((2, 0x9ffc, 0x77)), *b"........"),
+    (0xffe, 4, Some((2, 0x8002, 0x77)), *b"bcde...."),
+    (0x1003, 1, Some((2, 0x8004, 0x77)), *b"g......."),
+    (0x1ffe, 2, Some((0, 0x2000, 0x11)), *b"yz......"),
+];
+
+// Patches lie over the edge of two pages, over a byte that is absent, and where there is no page.
+const PATCHED: [(u64, usize, Option<Missing>, [u8; 8]); 3] = [
+    (0xffd, 6, Some((3, 0x8003, 0x77)), *b"aWXYeZ.."),
+    (0x1ffe, 4, Some((1, 0x2002, 0x11)), *b"yzPQ...."),
+    (0x1001, 2, Some((3, 0x8003, 0x77)), *b"eZ......"),
+];
+
 // Of each size the last three bytes of the first page and the first two of the second. Nothing else is there.
 fn edges() -> Result<Paging<FourLevel, Board>, EditRefusal> {
     let mut board = laid(&TABLES)?;
@@ -35,63 +57,23 @@ fn edges() -> Result<Paging<FourLevel, Board>, EditRefusal> {
 }
 
 #[test]
-fn a_read_crosses_into_a_page_that_lies_before_its_own(rt: HostRuntime) -> Result<(), Fail> {
-    let paging = edges()?;
-    for (edge, second) in [
-        (KIB_4, 0x8000),
-        (2 * MIB_2, 0x60_0000),
-        (2 * GIB_1, 0x8000_0000),
-    ] {
-        let mut out = *b"........";
-        let (count, met) = paging.fill(edge - 3, &mut out);
-        assert_eq!(rt; count, 5);
-        assert_eq!(rt; met, Some(fault(2, second + 2, 0x77)));
-        assert_eq!(rt; out, *b"abcde...");
+fn reads_cross_into_a_page_that_lies_before_their_own(rt: HostRuntime) -> Result<(), Fail> {
+    let mut paging = edges()?;
+    fill(&rt, &paging, &EDGES);
+    for edge in [KIB_4, 2 * MIB_2, 2 * GIB_1] {
         let mut out = *b".....";
         assert_eq!(rt; paging.fill(edge - 2, &mut out[1..]), (4, None));
         assert_eq!(rt; out, *b".bcde");
     }
-    Ok(())
-}
-
-// A fault in the middle of a page ends the read, whatever lies behind it.
-#[test]
-fn a_read_ends_in_the_middle_of_a_page(rt: HostRuntime) -> Result<(), Fail> {
-    let mut paging = edges()?;
     paging.set(1, 0x8003, b"g")?;
     paging.set(1, 0x8ffe, b"yz")?;
-    let cases = [
-        (0xffc, 0, fault(2, 0x9ffc, 0x77), *b"......"),
-        (0xffe, 4, fault(2, 0x8002, 0x77), *b"bcde.."),
-        (0x1003, 1, fault(2, 0x8004, 0x77), *b"g....."),
-        (0x1ffe, 2, fault(0, 0x2000, 0x11), *b"yz...."),
-    ];
-    for (first, count, met, bytes) in cases {
-        let mut out = *b"......";
-        assert_eq!(rt; paging.fill(first, &mut out), (count, Some(met)));
-        assert_eq!(rt; out, bytes);
-    }
-    Ok(())
-}
-
-// Patches lie over the edge of two pages, over a byte that is absent, and where there is no page.
-#[test]
-fn patches_cross_pages(rt: HostRuntime) -> Result<(), Fail> {
-    let mut space = Overlay::new(edges()?);
-    space.set(0, 0xffe, b"WXY")?;
-    space.set(0, 0x1002, b"Z")?;
-    space.set(2, 0x8ffe, b"yz")?;
-    space.set(0, 0x2000, b"PQ")?;
-    let cases = [
-        (0xffd, 6, fault(3, 0x8003, 0x77), *b"aWXYeZ.."),
-        (0x1ffe, 4, fault(1, 0x2002, 0x11), *b"yzPQ...."),
-        (0x1001, 2, fault(3, 0x8003, 0x77), *b"eZ......"),
-    ];
-    for (first, count, met, bytes) in cases {
-        let mut out = *b"........";
-        assert_eq!(rt; space.fill(first, &mut out), (count, Some(met)));
-        assert_eq!(rt; out, bytes);
-    }
+    fill(&rt, &paging, &MIDDLES);
+    let mut patched = Overlay::new(edges()?);
+    patched.set(0, 0xffe, b"WXY")?;
+    patched.set(0, 0x1002, b"Z")?;
+    patched.set(2, 0x8ffe, b"yz")?;
+    patched.set(0, 0x2000, b"PQ")?;
+    fill(&rt, &patched, &PATCHED);
     Ok(())
 }
 
