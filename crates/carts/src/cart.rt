@@ -9,8 +9,11 @@ use overlays::Overlay;
 use paging::{FourLevel, Paging};
 use spaces::Space;
 
-// A stopped cart, from the top: an overlay, four-level paging, an overlay, the image of its dump.
-pub type Cart<'t, 'f> = Overlay<Paging<FourLevel, Overlay<Image<'t, 'f, LimeRange>>>>;
+// The layers of a cart on any bottom, from the top: an overlay, four-level paging, an overlay.
+pub type Layered<B> = Overlay<Paging<FourLevel, Overlay<B>>>;
+
+// A stopped cart: its layers on the image of its dump.
+pub type Cart<'t, 'f> = Layered<Image<'t, 'f, LimeRange>>;
 
 // How many ranges a dump may have.
 pub const RANGES: usize = 64;
@@ -39,11 +42,11 @@ fn load_image<'t, 'f>(
     Ok(Image::new(table, file))
 }
 
-// The layers of a cart on an image.
-pub fn layer<'t, 'f>(image: Image<'t, 'f, LimeRange>, cr3: u64) -> Cart<'t, 'f>
-    ensures { ⟦<Cart<'t, 'f> as Space>⟧.meaning result ≡ layered cr3 (⟦<Image<'t, 'f, LimeRange> as Space>⟧.meaning image.entry) }
+// The layers of a cart on a bottom, with its CR3.
+pub fn layer<B: Space>(bottom: B, cr3: u64) -> Layered<B>
+    ensures { ⟦<Layered<B> as Space>⟧.meaning result ≡ layered cr3 (B.Space.meaning bottom) }
 {
-    Overlay::new(Paging::new(FourLevel, cr3, Overlay::new(image)))
+    Overlay::new(Paging::new(FourLevel, cr3, Overlay::new(bottom)))
 }
 
 // The cart whose memory is in a dump and whose CR3 is in a root file, or why the dump is refused. The memory is for the
