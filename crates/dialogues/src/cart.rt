@@ -33,37 +33,34 @@ fn lay_aisle(file: &mut Vec<u8>) -> Result<(), AllocError> {
 }
 
 // The whole story of the sample cart.
+const STORY: &[(&str, &str)] = &[
+    ("qaisle.fault", "none"),
+    // the page ends
+    ("mffc,8", "41424344"),
+    ("qaisle.fault", "01,0000000000001000,11"),
+    ("mffc,4", "41424344"),
+    ("qaisle.fault", "01,0000000000001000,11"),
+    // of the page's memory the dump has the end alone
+    ("m0,4", "E01"),
+    ("qaisle.fault", "03,0000000000005000,01"),
+    // and of the table of level 2 the first entry alone
+    ("m200000,1", "E01"),
+    ("qaisle.fault", "03,0000000000003008,01"),
+    ("m800000000000,1", "E04"),
+    ("qaisle.fault", "01,0000800000000000,04"),
+    // the next page is there once its entry is patched in
+    ("m1ffc,4", "E11"),
+    ("Qaisle.depth:02", "OK"),
+    ("M4008,2:0350", "OK"),
+    ("m1ffc,4", "41424344"),
+    ("qaisle.fault", "01,0000000000001ffc,11"),
+];
+
 #[test]
 fn the_sample_cart(rt: HostRuntime) -> Result<(), Fail> {
     let mut dump = Vec::new(rt.alloc());
     lay_aisle(&mut dump)?;
     let mut memory = [LimeRange::default(); RANGES];
-    let cart = load_cart(&dump, b"\x00\x10", &mut memory)?;
-    dialogue(
-        &rt,
-        cart,
-        &[
-            ("qaisle.fault", "none"),
-            // the page ends
-            ("mffc,8", "41424344"),
-            ("qaisle.fault", "01,0000000000001000,11"),
-            ("mffc,4", "41424344"),
-            ("qaisle.fault", "01,0000000000001000,11"),
-            // of the page's memory the dump has the end alone
-            ("m0,4", "E01"),
-            ("qaisle.fault", "03,0000000000005000,01"),
-            // and of the table of level 2 the first entry alone
-            ("m200000,1", "E01"),
-            ("qaisle.fault", "03,0000000000003008,01"),
-            ("m800000000000,1", "E04"),
-            ("qaisle.fault", "01,0000800000000000,04"),
-            // the next page is there once its entry is patched in
-            ("m1ffc,4", "E11"),
-            ("Qaisle.depth:02", "OK"),
-            ("M4008,2:0350", "OK"),
-            ("m1ffc,4", "41424344"),
-            ("qaisle.fault", "01,0000000000001ffc,11"),
-        ],
-    );
+    dialogue(&rt, load_cart(&dump, b"\x00\x10", &mut memory)?, STORY);
     Ok(())
 }

@@ -62,11 +62,7 @@ fn records_take_effect(rt: HostRuntime) {
     // nothing is patched there
     let idle = [clear(9, 2), clear(4, 0)];
     applies(&rt, idle.as_flattened(), Ok(2), SAME);
-}
-
-// Of two records for an address the later counts.
-#[test]
-fn records_in_order(rt: HostRuntime) {
+    // of two records for an address the later counts
     for (records, bytes) in [
         ([set(6, 2, 1), set(6, 2, 0xfe)], "aa05fe0708090a0b0c0d0e0f"),
         ([set(6, 2, 1), clear(6, 2)], SAME),
@@ -96,8 +92,8 @@ fn bytes_of_a_file(rt: HostRuntime) {
 
 #[test]
 fn refusals_have_their_numbers(rt: HostRuntime) {
-    assert_eq!(rt; Refusal::BadLength.number(), 0x3a);
-    assert_eq!(rt; Refusal::BadRecord.number(), 0x3b);
+    assert!(rt; Refusal::BadLength.number() == 0x3a);
+    assert!(rt; Refusal::BadRecord.number() == 0x3b);
 }
 
 // It counts before the form of a record does.
@@ -128,21 +124,15 @@ fn malformed(rt: &impl Abort, raw: Raw) {
 }
 
 #[test]
-fn wrong_kinds(rt: HostRuntime) {
+fn malformed_records(rt: HostRuntime) {
     for kind in [2, 3, 0x31, 0x80, 0xff] {
         malformed(&rt, record(6, 2, kind, 0));
     }
-}
-
-#[test]
-fn clears_with_values(rt: HostRuntime) {
+    // clears with values
     for value in [1, 0x80, 0xff] {
         malformed(&rt, record(6, 2, 0, value));
     }
-}
-
-#[test]
-fn unused_bytes(rt: HostRuntime) {
+    // unused bytes
     for kind in [0, 1] {
         for place in [10usize, 11, 13, 14, 15] {
             let mut raw = record(6, 2, kind, 0);

@@ -41,7 +41,7 @@ fn owing<S: Space + Drop>(
 ) -> Owing<S> {
     match session.hear(received) {
         Heard::Packet { session, payload } => {
-            assert_eq!(rt; payload, expected, "{received:?}");
+            assert!(rt; payload == expected, "{received:?}");
             session
         }
         Heard::Other { session, .. } => {
@@ -121,8 +121,8 @@ pub(crate) fn reply<S: Space + Drop>(
     let session = owing(rt, session, &framed(payload), payload);
     let mut buffer = [b'.'; REPLY];
     let (session, count) = session.answer(payload, &mut buffer);
-    assert_eq!(rt; buffer, framed(text), "{payload:?}");
-    assert_eq!(rt; count, text.len() + 4, "{payload:?}");
+    let right = count == text.len() + 4 && buffer == framed(text);
+    assert!(rt; right, "{payload:?}");
     session
 }
 
