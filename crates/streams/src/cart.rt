@@ -38,13 +38,8 @@ fn cart_sends(
 }
 
 #[test]
-fn at_once(rt: HostRuntime) -> Result<(), Fail> {
+fn at_once_and_in_pieces_of_every_size(rt: HostRuntime) -> Result<(), Fail> {
     cart_sends(&rt, STREAM, SENT)?;
-    Ok(())
-}
-
-#[test]
-fn in_pieces_of_every_size(rt: HostRuntime) -> Result<(), Fail> {
     for size in 1..=STREAM.len() {
         let pieces = Pieces {
             rest: STREAM,
