@@ -1,8 +1,8 @@
-use crate::cart::range;
 use crate::talk::dialogue;
 use carts::{RANGES, cr3_in, load_cart};
 use images::LimeRange;
 use spaces::Refusal;
+use std::alloc::AllocError;
 use std::test::Fail;
 
 // CR3 by so many bytes of a root file: the lowest is the first, and those that are missing are zeros.
@@ -27,6 +27,15 @@ fn roots_of_every_length(rt: HostRuntime) {
     for (n, cr3) in ROOTS.iter().enumerate() {
         assert!(rt; cr3_in(&root[..n.min(10)]) == *cr3, "{n}");
     }
+}
+
+// A range of a LiME file: magic, version, first and last address, eight zeros, and its bytes.
+fn range(file: &mut Vec<u8>, first: u64, last: u64, bytes: &[u8]) -> Result<(), AllocError> {
+    file.extend_from_slice(b"EMiL\x01\0\0\0")?;
+    file.extend_from_slice(&first.to_le_bytes())?;
+    file.extend_from_slice(&last.to_le_bytes())?;
+    file.extend_from_slice(&[0; 8])?;
+    file.extend_from_slice(bytes)
 }
 
 // What the dump below shows, and the fault where its file ends.

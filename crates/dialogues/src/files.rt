@@ -1,5 +1,5 @@
 use crate::piles::{counting, windowed};
-use crate::talk::{apply, apply_owing, begun, ended, replies};
+use crate::talk::{apply, begun, ended, replies};
 use patchfiles::Stopped;
 use spaces::{Numbered, Refusal};
 use std::process::Abort;
@@ -39,12 +39,11 @@ fn applies(rt: &impl Abort, file: &[u8], expected: Result<usize, Stopped>, bytes
         ("M5,1:bb", "OK"),
         ("m1,1", "bb"),
     ];
-    let session = replies(rt, begun(windowed()), BEFORE);
-    let session = apply(rt, session, file, expected);
-    let _ = ended(replies(rt, session, &after));
-    let session = replies(rt, begun(windowed()), BEFORE);
-    let session = apply_owing(rt, session, file, expected);
-    let _ = ended(replies(rt, session, &after));
+    for owes in [false, true] {
+        let session = replies(rt, begun(windowed()), BEFORE);
+        let session = apply(rt, session, owes, file, expected);
+        let _ = ended(replies(rt, session, &after));
+    }
 }
 
 // What the session has where no record takes effect.
@@ -77,7 +76,7 @@ fn records_take_effect(rt: HostRuntime) {
 fn bytes_of_a_file(rt: HostRuntime) {
     let file = *b"\x08\x07\x06\x05\x04\x03\x02\x01\0\x01\0\0\x99\0\0\0\
         \xff\xff\xff\xff\xff\xff\xff\xff\0\x01\0\0\x98\0\0\0";
-    let session = apply(&rt, begun(counting(4)), &file, Ok(2));
+    let session = apply(&rt, begun(counting(4)), false, &file, Ok(2));
     let session = replies(
         &rt,
         session,
@@ -173,11 +172,17 @@ fn too_many_patches(rt: HostRuntime) {
         *slot = set(address, 0, 0x5a);
     }
     let stop = stopped(Refusal::TooManyPatches, 256);
-    let session = apply(&rt, begun(counting(0x200)), full.as_flattened(), stop);
+    let session = apply(
+        &rt,
+        begun(counting(0x200)),
+        false,
+        full.as_flattened(),
+        stop,
+    );
     let there = [("m0,2", "5a5a"), ("mfe,4", "5a5a0001")];
     let session = replies(&rt, session, &there);
     let other = [clear(0, 0), set(0x100, 0, 0x5b)];
-    let session = apply_owing(&rt, session, other.as_flattened(), Ok(2));
+    let session = apply(&rt, session, true, other.as_flattened(), Ok(2));
     let there = [("m0,2", "005a"), ("mfe,4", "5a5a5b01"), ("M0,1:00", "E27")];
     let _ = ended(replies(&rt, session, &there));
 }
