@@ -1,8 +1,7 @@
 use crate::piles::{counting, windowed};
-use crate::talk::{apply, apply_owing, begun, ended, replies};
-use numbers::Numbered;
-use patchfiles::{PatchFileRefusal, Stopped};
-use spaces::EditRefusal;
+use crate::talk::{apply, begun, ended, replies};
+use patchfiles::Stopped;
+use spaces::{Numbered, Refusal};
 use std::process::Abort;
 
 type Raw = [u8; 16];
@@ -20,7 +19,7 @@ fn clear(address: u64, depth: u8) -> Raw {
     record(address, depth, 0, 0)
 }
 
-fn stopped(refusal: PatchFileRefusal, index: usize) -> Result<usize, Stopped> {
+fn stopped(refusal: Refusal, index: usize) -> Result<usize, Stopped> {
     Err(Stopped { refusal, index })
 }
 
@@ -40,12 +39,11 @@ fn applies(rt: &impl Abort, file: &[u8], expected: Result<usize, Stopped>, bytes
         ("M5,1:bb", "OK"),
         ("m1,1", "bb"),
     ];
-    let session = replies(rt, begun(windowed()), BEFORE);
-    let session = apply(rt, session, file, expected);
-    let _ = ended(replies(rt, session, &after));
-    let session = replies(rt, begun(windowed()), BEFORE);
-    let session = apply_owing(rt, session, file, expected);
-    let _ = ended(replies(rt, session, &after));
+    for owes in [false, true] {
+        let session = replies(rt, begun(windowed()), BEFORE);
+        let session = apply(rt, session, owes, file, expected);
+        let _ = ended(replies(rt, session, &after));
+    }
 }
 
 // What the session has where no record takes effect.
@@ -63,11 +61,7 @@ fn records_take_effect(rt: HostRuntime) {
     // nothing is patched there
     let idle = [clear(9, 2), clear(4, 0)];
     applies(&rt, idle.as_flattened(), Ok(2), SAME);
-}
-
-// Of two records for an address the later counts.
-#[test]
-fn records_in_order(rt: HostRuntime) {
+    // of two records for an address the later counts
     for (records, bytes) in [
         ([set(6, 2, 1), set(6, 2, 0xfe)], "aa05fe0708090a0b0c0d0e0f"),
         ([set(6, 2, 1), clear(6, 2)], SAME),
@@ -82,7 +76,7 @@ fn records_in_order(rt: HostRuntime) {
 fn bytes_of_a_file(rt: HostRuntime) {
     let file = *b"\x08\x07\x06\x05\x04\x03\x02\x01\0\x01\0\0\x99\0\0\0\
         \xff\xff\xff\xff\xff\xff\xff\xff\0\x01\0\0\x98\0\0\0";
-    let session = apply(&rt, begun(counting(4)), &file, Ok(2));
+    let session = apply(&rt, begun(counting(4)), false, &file, Ok(2));
     let session = replies(
         &rt,
         session,
@@ -97,8 +91,8 @@ fn bytes_of_a_file(rt: HostRuntime) {
 
 #[test]
 fn refusals_have_their_numbers(rt: HostRuntime) {
-    assert_eq!(rt; PatchFileRefusal::BadLength.number(), 0x3a);
-    assert_eq!(rt; PatchFileRefusal::BadRecord.number(), 0x3b);
+    assert!(rt; Refusal::BadLength.number() == 0x3a);
+    assert!(rt; Refusal::BadRecord.number() == 0x3b);
 }
 
 // It counts before the form of a record does.
@@ -108,7 +102,7 @@ fn wrong_lengths(rt: HostRuntime) {
         let both = [raw, raw];
         for length in [1, 15, 17, 31] {
             let file = &both.as_flattened()[..length];
-            applies(&rt, file, stopped(PatchFileRefusal::BadLength, 0), SAME);
+            applies(&rt, file, stopped(Refusal::BadLength, 0), SAME);
         }
     }
 }
@@ -123,27 +117,21 @@ fn malformed(rt: &impl Abort, raw: Raw) {
         ([good, raw, raw], 1),
         ([early, good, raw], 2),
     ] {
-        let expected = stopped(PatchFileRefusal::BadRecord, index);
+        let expected = stopped(Refusal::BadRecord, index);
         applies(rt, records.as_flattened(), expected, SAME);
     }
 }
 
 #[test]
-fn wrong_kinds(rt: HostRuntime) {
+fn malformed_records(rt: HostRuntime) {
     for kind in [2, 3, 0x31, 0x80, 0xff] {
         malformed(&rt, record(6, 2, kind, 0));
     }
-}
-
-#[test]
-fn clears_with_values(rt: HostRuntime) {
+    // clears with values
     for value in [1, 0x80, 0xff] {
         malformed(&rt, record(6, 2, 0, value));
     }
-}
-
-#[test]
-fn unused_bytes(rt: HostRuntime) {
+    // unused bytes
     for kind in [0, 1] {
         for place in [10usize, 11, 13, 14, 15] {
             let mut raw = record(6, 2, kind, 0);
@@ -163,7 +151,7 @@ fn refused(rt: &impl Abort, raw: Raw) {
         ([good, raw, other], 1, changed),
         ([good, clear(7, 2), raw], 2, changed),
     ] {
-        let expected = stopped(PatchFileRefusal::Edit(EditRefusal::NoOverlay), index);
+        let expected = stopped(Refusal::NoOverlay, index);
         applies(rt, records.as_flattened(), expected, bytes);
     }
 }
@@ -183,12 +171,18 @@ fn too_many_patches(rt: HostRuntime) {
     for (slot, address) in full.iter_mut().zip(0..257) {
         *slot = set(address, 0, 0x5a);
     }
-    let stop = stopped(PatchFileRefusal::Edit(EditRefusal::TooManyPatches), 256);
-    let session = apply(&rt, begun(counting(0x200)), full.as_flattened(), stop);
+    let stop = stopped(Refusal::TooManyPatches, 256);
+    let session = apply(
+        &rt,
+        begun(counting(0x200)),
+        false,
+        full.as_flattened(),
+        stop,
+    );
     let there = [("m0,2", "5a5a"), ("mfe,4", "5a5a0001")];
     let session = replies(&rt, session, &there);
     let other = [clear(0, 0), set(0x100, 0, 0x5b)];
-    let session = apply_owing(&rt, session, other.as_flattened(), Ok(2));
+    let session = apply(&rt, session, true, other.as_flattened(), Ok(2));
     let there = [("m0,2", "005a"), ("mfe,4", "5a5a5b01"), ("M0,1:00", "E27")];
     let _ = ended(replies(&rt, session, &there));
 }

@@ -1,8 +1,9 @@
 use crate::piles::{counting, windowed};
 use crate::talk::{dialogue, framed, replayed};
-use packets::{Item, PAYLOAD, REPLY};
-use patchfiles::{PatchFileRefusal, Stopped};
+use packets::{Item, REPLY};
+use patchfiles::Stopped;
 use sessions::{Call, Outcome, Slot};
+use spaces::{Refusal, Space};
 use std::process::Abort;
 
 // A place before a call: it has an outcome that no call here has.
@@ -11,161 +12,144 @@ const EMPTY: Slot<'static> = Slot {
     reply: [b'.'; REPLY],
 };
 
-// Places after a call: the buffer is as it was but for a reply.
-fn came(outcome: Outcome) -> Slot {
-    Slot {
-        outcome,
-        reply: EMPTY.reply,
+// The most calls of a replay, and the most places.
+const MOST: usize = 12;
+
+// A call, what comes of it, and the text of the reply where it is answered.
+type Turn<'a> = (Call<'a>, Outcome<'a>, &'a str);
+
+// A place after a call: the buffer is as it was but for a reply.
+fn came(rt: &impl Abort, slot: &Slot, turn: &Turn) {
+    let (_, outcome, text) = turn;
+    assert!(rt; slot.outcome == *outcome);
+    let reply = match outcome {
+        Outcome::Answered(_) => framed(text.as_bytes()),
+        _ => EMPTY.reply,
+    };
+    assert!(rt; slot.reply == reply);
+}
+
+// Calls are replayed over a space, with so many places. Nothing comes into those behind the last call. Whether a reply is owed
+// at the end is as expected, and the space is given back.
+fn replays<S: Space + Drop>(
+    rt: &impl Abort,
+    space: S,
+    turns: &[Turn<'static>],
+    places: usize,
+    owes: bool,
+) -> S {
+    let mut calls: [Call<'static>; MOST] = [Call::Hear(b""); MOST];
+    for (place, (call, _, _)) in calls.iter_mut().zip(turns) {
+        *place = *call;
     }
-}
-
-fn hears(item: Item) -> Slot {
-    came(Outcome::Heard(item))
-}
-
-fn packet(payload: &[u8]) -> Slot<'_> {
-    hears(Item::Packet { payload })
-}
-
-fn says(text: &[u8]) -> Slot<'static> {
-    Slot {
-        outcome: Outcome::Answered(text.len().min(PAYLOAD) + 4),
-        reply: framed(text),
+    let calls = &calls[..turns.len().min(MOST)];
+    let mut slots = [EMPTY; MOST];
+    let slots = &mut slots[..places.min(MOST)];
+    let (owed, space) = replayed(space, calls, slots);
+    assert!(rt; owed == owes);
+    for (slot, turn) in slots.iter().zip(turns) {
+        came(rt, slot, turn);
     }
-}
-
-fn are(rt: &impl Abort, slots: &[Slot], expected: &[Slot]) {
-    assert!(rt; slots.len() == expected.len());
-    for (slot, other) in slots.iter().zip(expected) {
-        assert!(rt; slot.outcome == other.outcome && slot.reply == other.reply);
+    for slot in slots.iter().skip(turns.len()) {
+        assert!(rt; slot.outcome == EMPTY.outcome && slot.reply == EMPTY.reply);
     }
+    space
 }
 
 // `D`, as it is sent.
 const PACKET: Call<'static> = Call::Hear(b"$D#44");
 
+const HEARD: Outcome<'static> = Outcome::Heard(Item::Packet { payload: b"D" });
+
 // Address 1 is set to ee at depth 0.
-const FILE: [u8; 16] = *b"\x01\0\0\0\0\0\0\0\0\x01\0\0\xee\0\0\0";
+const FILE: Call<'static> = Call::Apply(b"\x01\0\0\0\0\0\0\0\0\x01\0\0\xee\0\0\0");
+
+const IN_TURN: &[Turn<'static>] = &[
+    (Call::Answer(b"M0,1:ff"), Outcome::NotAllowed, ""),
+    (Call::Hear(b"+"), Outcome::Heard(Item::Ignored), ""),
+    (Call::Answer(b"M0,1:ff"), Outcome::NotAllowed, ""),
+    (
+        Call::Hear(b"$?#3f"),
+        Outcome::Heard(Item::Packet { payload: b"?" }),
+        "",
+    ),
+    (Call::Hear(b"$M0,1:ff#e0"), Outcome::NotAllowed, ""),
+    // a payload that was not heard is answered like any other
+    (Call::Answer(b"m0,2"), Outcome::Answered(8), "0001"),
+    (Call::Answer(b"M0,1:ff"), Outcome::NotAllowed, ""),
+    (FILE, Outcome::Applied(Ok(1)), ""),
+    (
+        Call::Hear(b"$g#67$?#3f"),
+        Outcome::Heard(Item::Packet { payload: b"g" }),
+        "",
+    ),
+    (Call::Hear(b"-"), Outcome::NotAllowed, ""),
+    (
+        Call::Apply(b"short"),
+        Outcome::Applied(Err(Stopped {
+            refusal: Refusal::BadLength,
+            index: 0,
+        })),
+        "",
+    ),
+    (Call::Answer(b"m0,2"), Outcome::Answered(8), "00ee"),
+];
+
+// A call that is not allowed changes neither the depth nor the last fault.
+const NOT_ALLOWED: &[Turn<'static>] = &[
+    (PACKET, HEARD, ""),
+    (Call::Answer(b"Qaisle.depth:02"), Outcome::Answered(6), "OK"),
+    (Call::Answer(b"Qaisle.depth:00"), Outcome::NotAllowed, ""),
+    (PACKET, HEARD, ""),
+    (Call::Answer(b"mc,1"), Outcome::Answered(7), "E77"),
+    (Call::Answer(b"m10,1"), Outcome::NotAllowed, ""),
+    (PACKET, HEARD, ""),
+    (PACKET, Outcome::NotAllowed, ""),
+    (
+        Call::Answer(b"qaisle.fault"),
+        Outcome::Answered(26),
+        "03,0000000000000010,77",
+    ),
+    (PACKET, HEARD, ""),
+    (Call::Answer(b"M4,1:aa"), Outcome::Answered(6), "OK"),
+    (Call::Answer(b"M5,1:bb"), Outcome::NotAllowed, ""),
+];
+
+// Address 4 is patched at depth 2, and 5 is not.
+const PATCHED: &[(&str, &str)] = &[
+    ("m0,2", "aa05"),
+    ("Qaisle.depth:02", "OK"),
+    ("M4,1:ab", "OK"),
+    ("m0,2", "ab05"),
+];
 
 #[test]
 fn calls_in_turn(rt: HostRuntime) {
-    let calls = [
-        Call::Answer(b"M0,1:ff"),
-        Call::Hear(b"+"),
-        Call::Answer(b"M0,1:ff"),
-        Call::Hear(b"$?#3f"),
-        Call::Hear(b"$M0,1:ff#e0"),
-        // a payload that was not heard is answered like any other
-        Call::Answer(b"m0,2"),
-        Call::Answer(b"M0,1:ff"),
-        Call::Apply(&FILE),
-        Call::Hear(b"$g#67$?#3f"),
-        Call::Hear(b"-"),
-        Call::Apply(b"short"),
-        Call::Answer(b"m0,2"),
-    ];
-    let mut slots = [EMPTY; 12];
-    let (owes, _) = replayed(counting(4), &calls, &mut slots);
-    assert!(rt; !owes);
-    let expected = [
-        came(Outcome::NotAllowed),
-        hears(Item::Ignored),
-        came(Outcome::NotAllowed),
-        packet(b"?"),
-        came(Outcome::NotAllowed),
-        says(b"0001"),
-        came(Outcome::NotAllowed),
-        came(Outcome::Applied(Ok(1))),
-        packet(b"g"),
-        came(Outcome::NotAllowed),
-        came(Outcome::Applied(Err(Stopped {
-            refusal: PatchFileRefusal::BadLength,
-            index: 0,
-        }))),
-        says(b"00ee"),
-    ];
-    are(&rt, &slots, &expected);
+    replays(&rt, counting(4), IN_TURN, 12, false);
+    let space = replays(&rt, windowed(), NOT_ALLOWED, 12, false);
+    dialogue(&rt, space, PATCHED);
 }
 
-// A call that is not allowed changes neither the depth nor the last fault.
-#[test]
-fn calls_not_allowed(rt: HostRuntime) {
-    let calls = [
-        PACKET,
-        Call::Answer(b"Qaisle.depth:02"),
-        Call::Answer(b"Qaisle.depth:00"),
-        PACKET,
-        Call::Answer(b"mc,1"),
-        Call::Answer(b"m10,1"),
-        PACKET,
-        PACKET,
-        Call::Answer(b"qaisle.fault"),
-        PACKET,
-        Call::Answer(b"M4,1:aa"),
-        Call::Answer(b"M5,1:bb"),
-    ];
-    let mut slots = [EMPTY; 12];
-    let (owes, space) = replayed(windowed(), &calls, &mut slots);
-    assert!(rt; !owes);
-    // address 4 is patched at depth 2, and 5 is not
-    let there = [
-        ("m0,2", "aa05"),
-        ("Qaisle.depth:02", "OK"),
-        ("M4,1:ab", "OK"),
-        ("m0,2", "ab05"),
-    ];
-    dialogue(&rt, space, &there);
-    let expected = [
-        packet(b"D"),
-        says(b"OK"),
-        came(Outcome::NotAllowed),
-        packet(b"D"),
-        says(b"E77"),
-        came(Outcome::NotAllowed),
-        packet(b"D"),
-        came(Outcome::NotAllowed),
-        says(b"03,0000000000000010,77"),
-        packet(b"D"),
-        says(b"OK"),
-        came(Outcome::NotAllowed),
-    ];
-    are(&rt, &slots, &expected);
-}
+const WITHOUT_PLACES: &[Turn<'static>] = &[
+    (PACKET, HEARD, ""),
+    (Call::Answer(b"M0,1:ff"), Outcome::Answered(6), "OK"),
+    (PACKET, HEARD, ""),
+    // for these there is no place
+    (Call::Answer(b"M1,1:ff"), Outcome::NotAllowed, ""),
+    (FILE, Outcome::NotAllowed, ""),
+];
+
+const WITH_PLACES: &[Turn<'static>] = &[(PACKET, HEARD, ""), (FILE, Outcome::Applied(Ok(1)), "")];
+
+const WITHOUT_PLACE: &[Turn<'static>] = &[(FILE, Outcome::NotAllowed, "")];
 
 #[test]
-fn fewer_places_than_calls(rt: HostRuntime) {
-    let calls = [
-        PACKET,
-        Call::Answer(b"M0,1:ff"),
-        PACKET,
-        Call::Answer(b"M1,1:ff"),
-        Call::Apply(&FILE),
-    ];
-    let mut slots = [EMPTY; 3];
-    let (owes, space) = replayed(counting(4), &calls, &mut slots);
-    assert!(rt; owes);
+fn fewer_or_more_places_than_calls(rt: HostRuntime) {
+    let space = replays(&rt, counting(4), WITHOUT_PLACES, 3, true);
     dialogue(&rt, space, &[("m0,2", "ff01")]);
-    are(&rt, &slots, &[packet(b"D"), says(b"OK"), packet(b"D")]);
-}
-
-#[test]
-fn more_places_than_calls(rt: HostRuntime) {
-    let calls = [PACKET, Call::Apply(&FILE)];
-    let mut slots = [EMPTY; 4];
-    let (owes, space) = replayed(counting(4), &calls, &mut slots);
-    assert!(rt; owes);
+    let space = replays(&rt, counting(4), WITH_PLACES, 4, true);
     dialogue(&rt, space, &[("m0,2", "00ee")]);
-    let expected = [packet(b"D"), came(Outcome::Applied(Ok(1))), EMPTY, EMPTY];
-    are(&rt, &slots, &expected);
-}
-
-#[test]
-fn no_calls_or_no_places(rt: HostRuntime) {
-    let mut slots = [EMPTY; 1];
-    let (owes, _) = replayed(counting(4), &[], &mut slots);
-    assert!(rt; !owes);
-    are(&rt, &slots, &[EMPTY]);
-    let (owes, space) = replayed(counting(4), &[Call::Apply(&FILE)], &mut []);
-    assert!(rt; !owes);
+    replays(&rt, counting(4), &[], 1, false);
+    let space = replays(&rt, counting(4), WITHOUT_PLACE, 0, false);
     dialogue(&rt, space, &[("m0,2", "0001")]);
 }

@@ -1,86 +1,89 @@
+use crate::steps::Step::{self, Byte, Clear, Fill, Set};
+use crate::steps::steps;
 use outsiders::Ramp;
 use overlays::Overlay;
-use spaces::{EditRefusal, Fault, Space};
+use spaces::{Fault, Refusal};
 
 const LAST: u64 = u64::MAX;
 
-fn short() -> Overlay<Ramp> {
-    Overlay::new(Ramp { length: 4 })
-}
+const MANY: &[u8] = &[0; 257];
 
-#[test]
-fn a_set_may_end_at_the_last_address(rt: HostRuntime) {
-    let mut space = short();
-    assert_eq!(rt; space.set(0, LAST - 1, b"xy"), Ok(()));
-    assert_eq!(rt; space.byte(LAST - 1), Ok(b'x'));
-    assert_eq!(rt; space.byte(LAST), Ok(b'y'));
-    assert_eq!(rt; space.set(0, LAST, b"yz"), Err(EditRefusal::PastTheEnd));
-    assert_eq!(rt; space.byte(LAST), Ok(b'y'));
-    let mut out = *b"....";
-    let (count, fault) = space.fill(LAST - 1, &mut out);
-    assert_eq!(rt; count, 2);
-    assert!(rt; fault.is_none());
-    assert_eq!(rt; out, *b"xy..");
-}
+const SET_TO_THE_LAST: &[Step] = &[
+    Set(0, LAST - 1, b"xy", Ok(())),
+    Byte(LAST - 1, Ok(b'x')),
+    Byte(LAST, Ok(b'y')),
+    Set(0, LAST, b"yz", Err(Refusal::PastTheEnd)),
+    Byte(LAST, Ok(b'y')),
+    Fill(LAST - 1, b"xy..", 2, None),
+];
 
-#[test]
-fn a_clear_may_end_at_the_last_address(rt: HostRuntime) {
-    let mut space = short();
-    assert_eq!(rt; space.set(0, LAST, b"y"), Ok(()));
-    assert_eq!(rt; space.set(0, 0, b"x"), Ok(()));
-    assert_eq!(rt; space.clear(0, 2, LAST), Err(EditRefusal::PastTheEnd));
-    assert_eq!(rt; space.byte(LAST), Ok(b'y'));
-    assert_eq!(rt; space.clear(0, 0, LAST), Ok(()));
-    assert_eq!(rt; space.byte(LAST), Ok(b'y'));
-    assert_eq!(rt; space.byte(0), Ok(0));
-    assert_eq!(rt; space.clear(0, 1, LAST), Ok(()));
-    let absent = Fault {
-        depth: 1,
-        address: LAST,
-        cause: 0x77,
-    };
-    assert_eq!(rt; space.byte(LAST), Err(absent));
-}
+const CLEAR_TO_THE_LAST: &[Step] = &[
+    Set(0, LAST, b"y", Ok(())),
+    Set(0, 0, b"x", Ok(())),
+    Clear(0, 2, LAST, Err(Refusal::PastTheEnd)),
+    Byte(LAST, Ok(b'y')),
+    Clear(0, 0, LAST, Ok(())),
+    Byte(LAST, Ok(b'y')),
+    Byte(0, Ok(0)),
+    Clear(0, 1, LAST, Ok(())),
+    Byte(
+        LAST,
+        Err(Fault {
+            depth: 1,
+            address: LAST,
+            cause: 0x77,
+        }),
+    ),
+];
 
-#[test]
-fn the_first_refusal_counts(rt: HostRuntime) {
-    let mut space = short();
-    let many = [0; 257];
-    assert_eq!(rt; space.set(7, LAST - 1, &many), Err(EditRefusal::PastTheEnd));
-    assert_eq!(rt; space.set(0, LAST - 1, &many), Err(EditRefusal::PastTheEnd));
-    assert_eq!(rt; space.set(1, 0, &many), Err(EditRefusal::NoOverlay));
-    assert_eq!(rt; space.set(255, 0, b"x"), Err(EditRefusal::NoOverlay));
-    assert_eq!(rt; space.set(0, 0, &many), Err(EditRefusal::TooManyPatches));
-    assert_eq!(rt; space.clear(1, 0, 9), Err(EditRefusal::NoOverlay));
-    assert_eq!(rt; space.byte(0), Ok(0));
-}
+// The first refusal that applies counts.
+const REFUSALS: &[Step] = &[
+    Set(7, LAST - 1, MANY, Err(Refusal::PastTheEnd)),
+    Set(0, LAST - 1, MANY, Err(Refusal::PastTheEnd)),
+    Set(1, 0, MANY, Err(Refusal::NoOverlay)),
+    Set(255, 0, b"x", Err(Refusal::NoOverlay)),
+    Set(0, 0, MANY, Err(Refusal::TooManyPatches)),
+    Clear(1, 0, 9, Err(Refusal::NoOverlay)),
+    Byte(0, Ok(0)),
+];
 
-#[test]
-fn an_empty_one_changes_nothing(rt: HostRuntime) {
-    let mut space = short();
-    assert_eq!(rt; space.set(0, 1, b"x"), Ok(()));
-    assert_eq!(rt; space.set(0, 1, b""), Ok(()));
-    assert_eq!(rt; space.clear(0, 1, 0), Ok(()));
-    assert_eq!(rt; space.set(0, LAST, b""), Ok(()));
-    assert_eq!(rt; space.set(1, 1, b""), Err(EditRefusal::NoOverlay));
-    assert_eq!(rt; space.clear(1, 1, 0), Err(EditRefusal::NoOverlay));
-    assert_eq!(rt; space.byte(0), Ok(0));
-    assert_eq!(rt; space.byte(1), Ok(b'x'));
-}
+// An empty edit changes nothing.
+const EMPTY: &[Step] = &[
+    Set(0, 1, b"x", Ok(())),
+    Set(0, 1, b"", Ok(())),
+    Clear(0, 1, 0, Ok(())),
+    Set(0, LAST, b"", Ok(())),
+    Set(1, 1, b"", Err(Refusal::NoOverlay)),
+    Clear(1, 1, 0, Err(Refusal::NoOverlay)),
+    Byte(0, Ok(0)),
+    Byte(1, Ok(b'x')),
+];
 
 // A patch stands where the space below has no byte, and a fill goes on over it.
+const OVER_AN_ABSENT_BYTE: &[Step] = &[
+    Set(0, 4, b"e", Ok(())),
+    Fill(
+        2,
+        b"\x02\x03e.....",
+        3,
+        Some(Fault {
+            depth: 1,
+            address: 5,
+            cause: 0x77,
+        }),
+    ),
+];
+
+// Each over an overlay of four bytes that count up.
 #[test]
-fn a_patch_over_an_absent_byte(rt: HostRuntime) {
-    let mut space = short();
-    assert_eq!(rt; space.set(0, 4, b"e"), Ok(()));
-    let mut out = *b"........";
-    let (count, fault) = space.fill(2, &mut out);
-    assert_eq!(rt; count, 3);
-    let absent = Fault {
-        depth: 1,
-        address: 5,
-        cause: 0x77,
-    };
-    assert_eq!(rt; fault, Some(absent));
-    assert_eq!(rt; out, *b"\x02\x03e.....");
+fn ends_and_refusals(rt: HostRuntime) {
+    for turns in [
+        SET_TO_THE_LAST,
+        CLEAR_TO_THE_LAST,
+        REFUSALS,
+        EMPTY,
+        OVER_AN_ABSENT_BYTE,
+    ] {
+        steps(&rt, &mut Overlay::new(Ramp { length: 4 }), turns);
+    }
 }

@@ -10,6 +10,8 @@ mod limits;
 #[cfg(test)]
 mod stacked;
 #[cfg(test)]
+mod steps;
+#[cfg(test)]
 mod stretches;
 #[cfg(test)]
 mod windows;

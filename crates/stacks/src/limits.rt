@@ -1,83 +1,74 @@
+use crate::steps::Step::{self, Byte, Bytes, Clear, Fill, Set};
+use crate::steps::steps;
 use outsiders::Ramp;
 use overlays::{Overlay, PatchTable};
-use spaces::{EditRefusal, Space};
-use std::test::Fail;
+use spaces::{Refusal, Space};
 
-// An overlay over bytes that count up from 0 to 0xff, with the first of them patched to 7.
-fn patched(count: usize) -> Result<Overlay<Ramp>, EditRefusal> {
-    let mut space = Overlay::new(Ramp { length: 0x200 });
-    let sevens = [7; 256];
-    space.set(0, 0, &sevens[..count.min(256)])?;
-    Ok(space)
+// With 256 patches one more is refused.
+const ONE_MORE: &[Step] = &[
+    Set(0, 0, &[7; 256], Ok(())),
+    Set(0, 256, &[9], Err(Refusal::TooManyPatches)),
+    Byte(255, Ok(7)),
+    Byte(256, Ok(0)),
+    Set(0, 100, &[9; 200], Err(Refusal::TooManyPatches)),
+    Byte(100, Ok(7)),
+];
+
+// One in place of another is accepted.
+const REPLACED: &[Step] = &[
+    Set(0, 0, &[7; 256], Ok(())),
+    Set(0, 255, &[9], Ok(())),
+    Byte(255, Ok(9)),
+    Byte(254, Ok(7)),
+    Set(0, 0, &[8; 256], Ok(())),
+    Bytes(0, &[8; 256]),
+    Byte(256, Ok(0)),
+];
+
+// With 255 patches, what is new is counted and not what is replaced.
+const OLD_AND_NEW: &[Step] = &[
+    Set(0, 0, &[7; 255], Ok(())),
+    Set(0, 254, &[1, 2, 3], Err(Refusal::TooManyPatches)),
+    Byte(254, Ok(7)),
+    Byte(255, Ok(255)),
+    Set(0, 254, &[1, 2], Ok(())),
+    Byte(253, Ok(7)),
+    Byte(254, Ok(1)),
+    Byte(255, Ok(2)),
+    Set(0, 256, &[3], Err(Refusal::TooManyPatches)),
+];
+
+// A clear takes back its addresses alone.
+const CLEARED: &[Step] = &[
+    Set(0, 0, &[7; 8], Ok(())),
+    Clear(0, 2, 3, Ok(())),
+    Fill(0, &[7, 7, 2, 3, 4, 7, 7, 7, 8], 9, None),
+];
+
+// An overlay over bytes that count up from 0 to 0xff.
+fn counting() -> Overlay<Ramp> {
+    Overlay::new(Ramp { length: 0x200 })
 }
 
 #[test]
-fn at_256_one_more_is_refused(rt: HostRuntime) -> Result<(), Fail> {
-    let mut space = patched(256)?;
-    assert_eq!(rt; space.set(0, 256, &[9]), Err(EditRefusal::TooManyPatches));
-    assert_eq!(rt; space.byte(255), Ok(7));
-    assert_eq!(rt; space.byte(256), Ok(0));
-    assert_eq!(rt;
-        space.set(0, 100, &[9; 200]),
-        Err(EditRefusal::TooManyPatches)
-    );
-    assert_eq!(rt; space.byte(100), Ok(7));
-    Ok(())
-}
-
-#[test]
-fn at_256_replacing_is_accepted(rt: HostRuntime) -> Result<(), Fail> {
-    let mut space = patched(256)?;
-    assert_eq!(rt; space.set(0, 255, &[9]), Ok(()));
-    assert_eq!(rt; space.byte(255), Ok(9));
-    assert_eq!(rt; space.byte(254), Ok(7));
-    assert_eq!(rt; space.set(0, 0, &[8; 256]), Ok(()));
-    for at in 0..256u64 {
-        assert_eq!(rt; space.byte(at), Ok(8));
+fn at_most_256_patches(rt: HostRuntime) {
+    for turns in [ONE_MORE, REPLACED, OLD_AND_NEW, CLEARED] {
+        steps(&rt, &mut counting(), turns);
     }
-    assert_eq!(rt; space.byte(256), Ok(0));
-    Ok(())
 }
 
-#[test]
-fn at_255_old_and_new_are_counted(rt: HostRuntime) -> Result<(), Fail> {
-    let mut space = patched(255)?;
-    assert_eq!(rt;
-        space.set(0, 254, &[1, 2, 3]),
-        Err(EditRefusal::TooManyPatches)
-    );
-    assert_eq!(rt; space.byte(254), Ok(7));
-    assert_eq!(rt; space.byte(255), Ok(255));
-    assert_eq!(rt; space.set(0, 254, &[1, 2]), Ok(()));
-    assert_eq!(rt; space.byte(253), Ok(7));
-    assert_eq!(rt; space.byte(254), Ok(1));
-    assert_eq!(rt; space.byte(255), Ok(2));
-    assert_eq!(rt; space.set(0, 256, &[3]), Err(EditRefusal::TooManyPatches));
-    Ok(())
-}
+const ALL_BACK: &[Step] = &[Set(0, 0, &[7; 256], Ok(())), Clear(0, 0, u64::MAX, Ok(()))];
+
+const SET_ANEW: &[Step] = &[Set(0, 0x1000, &[9; 256], Ok(())), Byte(0x10ff, Ok(9))];
 
 #[test]
-fn one_clear_takes_all_back(rt: HostRuntime) -> Result<(), Fail> {
-    let mut space = patched(256)?;
-    assert_eq!(rt; space.clear(0, 0, u64::MAX), Ok(()));
-    for at in 0..256u64 {
-        assert_eq!(rt; space.byte(at), Ok((at % 256) as u8));
+fn one_clear_takes_all_back(rt: HostRuntime) {
+    let mut space = counting();
+    steps(&rt, &mut space, ALL_BACK);
+    for at in 0..=255u8 {
+        assert!(rt; space.byte(at as u64) == Ok(at), "{at}");
     }
-    assert_eq!(rt; space.set(0, 0x1000, &[9; 256]), Ok(()));
-    assert_eq!(rt; space.byte(0x10ff), Ok(9));
-    Ok(())
-}
-
-#[test]
-fn a_clear_takes_back_its_addresses_alone(rt: HostRuntime) -> Result<(), Fail> {
-    let mut space = patched(8)?;
-    assert_eq!(rt; space.clear(0, 2, 3), Ok(()));
-    let mut out = [0xff; 9];
-    let (count, fault) = space.fill(0, &mut out);
-    assert_eq!(rt; count, 9);
-    assert!(rt; fault.is_none());
-    assert_eq!(rt; out, [7, 7, 2, 3, 4, 7, 7, 7, 8]);
-    Ok(())
+    steps(&rt, &mut space, SET_ANEW);
 }
 
 // Patches that come in no order are all kept.
@@ -86,15 +77,15 @@ fn none_is_forgotten(rt: HostRuntime) {
     let mut table = PatchTable::new();
     for i in 0..256u64 {
         let at = (i * 167) % 256;
-        assert_eq!(rt; table.set(at * 0x1000, &[(at % 256) as u8]), Ok(()));
+        assert!(rt; table.set(at * 0x1000, &[(at % 256) as u8]) == Ok(()));
     }
-    assert_eq!(rt; table.len(), 256);
+    assert!(rt; table.len() == 256);
     for at in 0..256u64 {
-        assert_eq!(rt; table.lookup(at * 0x1000), Some((at % 256) as u8));
-        assert_eq!(rt; table.lookup(at * 0x1000 + 1), None);
+        assert!(rt; table.lookup(at * 0x1000) == Some((at % 256) as u8));
+        assert!(rt; table.lookup(at * 0x1000 + 1).is_none());
     }
-    assert_eq!(rt; table.clear(0x1000, 0x2000), Ok(()));
-    assert_eq!(rt; table.len(), 254);
-    assert_eq!(rt; table.lookup(0x1000), None);
-    assert_eq!(rt; table.lookup(0x3000), Some(3));
+    assert!(rt; table.clear(0x1000, 0x2000) == Ok(()));
+    assert!(rt; table.len() == 254);
+    assert!(rt; table.lookup(0x1000).is_none());
+    assert!(rt; table.lookup(0x3000) == Some(3));
 }

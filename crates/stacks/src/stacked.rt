@@ -1,64 +1,60 @@
+use crate::steps::Step::{self, Byte, Clear, Fill, Set};
+use crate::steps::steps;
 use outsiders::Ramp;
 use overlays::Overlay;
-use spaces::{EditRefusal, Fault, Space};
+use spaces::{Fault, Refusal};
 
-// Three overlays over eight bytes that count up.
-fn three() -> Overlay<Overlay<Overlay<Ramp>>> {
-    Overlay::new(Overlay::new(Overlay::new(Ramp { length: 8 })))
-}
+const MIDDLE: &[Step] = &[
+    Set(1, 2, b"mid", Ok(())),
+    Fill(0, b"\x00\x01mid\x05\x06\x07", 8, None),
+    Clear(0, 0, 8, Ok(())),
+    Clear(2, 0, 8, Ok(())),
+    Byte(2, Ok(b'm')),
+    Clear(1, 3, 1, Ok(())),
+    Byte(2, Ok(b'm')),
+    Byte(3, Ok(3)),
+    Byte(4, Ok(b'd')),
+];
 
-#[test]
-fn the_middle_one_is_patched(rt: HostRuntime) {
-    let mut space = three();
-    assert_eq!(rt; space.set(1, 2, b"mid"), Ok(()));
-    let mut out = [0xff; 8];
-    let (count, fault) = space.fill(0, &mut out);
-    assert_eq!(rt; count, 8);
-    assert!(rt; fault.is_none());
-    assert_eq!(rt; out, *b"\x00\x01mid\x05\x06\x07");
-    assert_eq!(rt; space.clear(0, 0, 8), Ok(()));
-    assert_eq!(rt; space.clear(2, 0, 8), Ok(()));
-    assert_eq!(rt; space.byte(2), Ok(b'm'));
-    assert_eq!(rt; space.clear(1, 3, 1), Ok(()));
-    assert_eq!(rt; space.byte(2), Ok(b'm'));
-    assert_eq!(rt; space.byte(3), Ok(3));
-    assert_eq!(rt; space.byte(4), Ok(b'd'));
-}
-
-#[test]
-fn the_upper_one_covers_the_lower(rt: HostRuntime) {
-    let mut space = three();
-    assert_eq!(rt; space.set(2, 0, b"low"), Ok(()));
-    assert_eq!(rt; space.set(1, 1, b"m"), Ok(()));
-    assert_eq!(rt; space.set(0, 1, b"t"), Ok(()));
-    assert_eq!(rt; space.byte(0), Ok(b'l'));
-    assert_eq!(rt; space.byte(1), Ok(b't'));
-    assert_eq!(rt; space.clear(0, 1, 1), Ok(()));
-    assert_eq!(rt; space.byte(1), Ok(b'm'));
-    assert_eq!(rt; space.clear(1, 1, 1), Ok(()));
-    assert_eq!(rt; space.byte(1), Ok(b'o'));
-    assert_eq!(rt; space.clear(2, 1, 1), Ok(()));
-    assert_eq!(rt; space.byte(1), Ok(1));
-}
+// The upper one covers the lower.
+const COVERED: &[Step] = &[
+    Set(2, 0, b"low", Ok(())),
+    Set(1, 1, b"m", Ok(())),
+    Set(0, 1, b"t", Ok(())),
+    Byte(0, Ok(b'l')),
+    Byte(1, Ok(b't')),
+    Clear(0, 1, 1, Ok(())),
+    Byte(1, Ok(b'm')),
+    Clear(1, 1, 1, Ok(())),
+    Byte(1, Ok(b'o')),
+    Clear(2, 1, 1, Ok(())),
+    Byte(1, Ok(1)),
+];
 
 // Each overlay has room for 256 patches of its own.
-#[test]
-fn each_has_its_own_limit(rt: HostRuntime) {
-    let mut space = three();
-    assert_eq!(rt; space.set(1, 0, &[1; 256]), Ok(()));
-    assert_eq!(rt; space.set(1, 256, &[1]), Err(EditRefusal::TooManyPatches));
-    assert_eq!(rt; space.set(0, 256, &[1; 256]), Ok(()));
-    assert_eq!(rt; space.set(2, 256, &[1; 256]), Ok(()));
-    assert_eq!(rt; space.set(3, 0, &[1]), Err(EditRefusal::NoOverlay));
-}
+const LIMITS: &[Step] = &[
+    Set(1, 0, &[1; 256], Ok(())),
+    Set(1, 256, &[1], Err(Refusal::TooManyPatches)),
+    Set(0, 256, &[1; 256], Ok(())),
+    Set(2, 256, &[1; 256], Ok(())),
+    Set(3, 0, &[1], Err(Refusal::NoOverlay)),
+];
 
-#[test]
-fn a_fault_climbs_through_all(rt: HostRuntime) {
-    let space = three();
-    let absent = Fault {
+// A fault climbs through all.
+const CLIMBED: &[Step] = &[Byte(
+    8,
+    Err(Fault {
         depth: 3,
         address: 8,
         cause: 0x77,
-    };
-    assert_eq!(rt; space.byte(8), Err(absent));
+    }),
+)];
+
+// Each over three overlays over eight bytes that count up.
+#[test]
+fn three_overlays(rt: HostRuntime) {
+    for turns in [MIDDLE, COVERED, LIMITS, CLIMBED] {
+        let lower = Overlay::new(Overlay::new(Ramp { length: 8 }));
+        steps(&rt, &mut Overlay::new(lower), turns);
+    }
 }

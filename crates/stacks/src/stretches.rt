@@ -1,6 +1,6 @@
 use outsiders::Ramp;
 use overlays::Overlay;
-use spaces::{EditRefusal, Fault, Space};
+use spaces::{Fault, Refusal, Space};
 use std::process::Abort;
 use std::test::Fail;
 
@@ -11,7 +11,7 @@ const SHOWN: [u8; 13] = *b"A\x01BC\x04\x05\x06DE\xee\xeeF\xee";
 // How many of them from each on have a byte.
 const UNBROKEN: [usize; 13] = [9, 8, 7, 6, 5, 4, 3, 2, 1, 0, 0, 1, 0];
 
-fn patched() -> Result<Overlay<Ramp>, EditRefusal> {
+fn patched() -> Result<Overlay<Ramp>, Refusal> {
     let mut space = Overlay::new(Ramp { length: 8 });
     space.set(0, 0, b"A")?;
     space.set(0, 2, b"BC")?;
@@ -24,13 +24,13 @@ fn patched() -> Result<Overlay<Ramp>, EditRefusal> {
 fn reads(rt: &impl Abort, space: &Overlay<Ramp>, first: usize, length: usize, unbroken: usize) {
     let mut out = [0xee; 10];
     let (count, met) = space.fill(first as u64, &mut out[..length.min(10)]);
-    assert_eq!(rt; count, length.min(unbroken));
+    assert!(rt; count == length.min(unbroken));
     let absent = Fault {
         depth: 1,
         address: first.saturating_add(unbroken) as u64,
         cause: 0x77,
     };
-    assert_eq!(rt; met, (unbroken < length).then_some(absent));
+    assert!(rt; met == (unbroken < length).then_some(absent));
     assert!(rt; out.starts_with(&SHOWN[first.min(13)..first.saturating_add(count).min(13)]));
     assert!(rt; out[count.min(10)..].iter().all(|byte| *byte == 0xee));
 }

@@ -1,7 +1,8 @@
 use crate::peers::Pieces;
 use crate::served::sends;
 use carts::{RANGES, load_cart};
-use images::{LimeRange, LoadRefusal};
+use images::LimeRange;
+use spaces::Refusal;
 use std::io::Read;
 use std::process::Abort;
 use std::test::Fail;
@@ -29,7 +30,7 @@ fn cart_sends(
     rt: &(impl Abort + AllocGlobal),
     input: impl Read + Drop,
     expected: &[u8],
-) -> Result<(), LoadRefusal> {
+) -> Result<(), Refusal> {
     let mut memory = [LimeRange::default(); RANGES];
     let cart = load_cart(&DUMP, b"\0\x10", &mut memory)?;
     sends(rt, cart, input, expected);
@@ -37,13 +38,8 @@ fn cart_sends(
 }
 
 #[test]
-fn at_once(rt: HostRuntime) -> Result<(), Fail> {
+fn at_once_and_in_pieces_of_every_size(rt: HostRuntime) -> Result<(), Fail> {
     cart_sends(&rt, STREAM, SENT)?;
-    Ok(())
-}
-
-#[test]
-fn in_pieces_of_every_size(rt: HostRuntime) -> Result<(), Fail> {
     for size in 1..=STREAM.len() {
         let pieces = Pieces {
             rest: STREAM,

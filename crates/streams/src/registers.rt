@@ -23,7 +23,7 @@ fn unknown_frame() -> [u8; 332] {
 
 // The registers in a reply to `g` and the bytes of each, as GDB 13.1 has them of i386:x86-64, in this order and with no gap
 // (`maint print remote-registers`). What comes behind them may be left out.
-const REGISTERS: [(&str, usize); 24] = [
+const REGISTERS: &[(&str, usize)] = &[
     ("rax", 8),
     ("rbx", 8),
     ("rcx", 8),
@@ -50,23 +50,35 @@ const REGISTERS: [(&str, usize); 24] = [
     ("gs", 4),
 ];
 
-// Two digits a byte: all of rip are 0, all others are not known.
+// Two digits a byte: all of rip are 0, all others are not known. What is behind the reply in its buffer is kept.
 #[test]
 fn registers_in_their_order(rt: HostRuntime) -> Result<(), Fail> {
     let mut digits = Vec::new(rt.alloc());
     for (name, bytes) in REGISTERS {
-        let digit = if name == "rip" { b"00" } else { b"xx" };
-        for _ in 0..bytes {
+        let digit = if *name == "rip" { b"00" } else { b"xx" };
+        for _ in 0..*bytes {
             digits.extend_from_slice(digit)?;
         }
     }
+    let mut expected = [b'.'; REPLY];
+    expected[..332].copy_from_slice(&known_frame());
+    assert!(rt; &expected[1..329] == digits.as_slice());
     let mut reply = [b'.'; REPLY];
     assert!(rt; with_known_pc(b"g", &mut reply, 7) == 332);
-    assert!(rt; &reply[1..329] == digits.as_slice());
+    assert!(rt; reply == expected);
     Ok(())
 }
 
-// A stream and what is sent for it, where it begins with a frame behind `+`.
+#[test]
+fn other_buffers(rt: HostRuntime) {
+    for payload in ["", "?", "gg", "G", "p10", "mzz"] {
+        let mut reply = [b'.'; REPLY];
+        assert!(rt; with_known_pc(payload.as_bytes(), &mut reply, 7) == 7);
+        assert!(rt; reply == [b'.'; REPLY]);
+    }
+}
+
+// A stream and what is sent for it: `+`, a frame, and more.
 fn sends(
     rt: &(impl Abort + AllocGlobal),
     known_pc: bool,
@@ -82,52 +94,17 @@ fn sends(
 }
 
 #[test]
-fn registers(rt: HostRuntime) {
-    sends(&rt, true, b"$g#67", &known_frame(), b"");
-    sends(&rt, false, b"$g#67", &unknown_frame(), b"");
-}
-
-// The latest reply is the one that was sent.
-#[test]
-fn registers_again(rt: HostRuntime) {
-    sends(&rt, true, b"$g#67-", &known_frame(), &known_frame());
-    sends(&rt, false, b"$g#67-", &unknown_frame(), &unknown_frame());
-    sends(
-        &rt,
-        true,
-        b"$g#67$?#3f-",
-        &known_frame(),
-        b"+$S05#b8$S05#b8",
-    );
-}
-
-// No other reply is changed.
-#[test]
-fn other_replies(rt: HostRuntime) {
+fn registers_in_streams(rt: HostRuntime) {
+    let known = known_frame();
+    let unknown = unknown_frame();
+    sends(&rt, true, b"$g#67", &known, b"");
+    sends(&rt, false, b"$g#67", &unknown, b"");
+    // the latest reply is the one that was sent
+    sends(&rt, true, b"$g#67-", &known, &known);
+    sends(&rt, false, b"$g#67-", &unknown, &unknown);
+    sends(&rt, true, b"$g#67$?#3f-", &known, b"+$S05#b8$S05#b8");
+    // no other reply is changed
     sends(&rt, true, b"$?#3f$gg#ce", b"$S05#b8", b"+$#00");
     sends(&rt, true, b"$m0,2#fb$D#44", b"$0001#c1", b"+$OK#9a");
     sends(&rt, true, b"$mzz#61$g#66", b"$E22#a9", b"-");
-}
-
-// What is behind the reply in its buffer is kept.
-#[test]
-fn the_buffer(rt: HostRuntime) {
-    let mut expected = [b'.'; REPLY];
-    expected[..332].copy_from_slice(&known_frame());
-    let mut reply = [b'.'; REPLY];
-    assert!(rt; with_known_pc(b"g", &mut reply, 7) == 332);
-    assert!(rt; reply == expected);
-}
-
-fn keeps(rt: &impl Abort, payload: &[u8]) {
-    let mut reply = [b'.'; REPLY];
-    assert!(rt; with_known_pc(payload, &mut reply, 7) == 7);
-    assert!(rt; reply == [b'.'; REPLY]);
-}
-
-#[test]
-fn other_buffers(rt: HostRuntime) {
-    for payload in ["", "?", "gg", "G", "p10", "mzz"] {
-        keeps(&rt, payload.as_bytes());
-    }
 }

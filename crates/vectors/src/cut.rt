@@ -1,6 +1,6 @@
-use crate::dumps::{byte, fault, loaded, range};
-use images::{LoadRefusal, NotLoaded};
-use spaces::Fault;
+use crate::dumps::{Range, byte, fault, lay, loaded};
+use images::NotLoaded;
+use spaces::{Fault, Refusal};
 use std::test::Fail;
 
 // Where the three headers of the dump below stand.
@@ -14,7 +14,7 @@ fn expected(n: usize) -> Result<usize, NotLoaded> {
         }
         if n - place < 32 {
             return Err(NotLoaded {
-                refusal: LoadRefusal::HeaderCut,
+                refusal: Refusal::HeaderCut,
                 place,
                 written,
             });
@@ -37,19 +37,29 @@ fn expected_byte(n: usize, at: u64) -> Result<u8, Fault> {
     fault(at, 2)
 }
 
+const DUMP: &[Range] = &[
+    (b"EMiL\x01", 0x10, 0x13, b"abcd"),
+    (b"EMiL\x01", 0x20, 0x21, b"ef"),
+    (b"EMiL\x01", 0x30, 0x32, b"ghi"),
+];
+
 // A dump of three ranges, cut at each of its bytes.
 #[test]
 fn cut_at_each_byte(rt: HostRuntime) -> Result<(), Fail> {
     let mut file = Vec::new(rt.alloc());
-    range(&mut file, 0x10, 0x13, b"abcd")?;
-    range(&mut file, 0x20, 0x21, b"ef")?;
-    range(&mut file, 0x30, 0x32, b"ghi")?;
+    lay(&mut file, DUMP)?;
     assert!(rt; file.len() == 105);
     for n in 0..=file.len() {
-        assert_eq!(rt; loaded(&file[0..n], 8), expected(n));
+        assert!(rt; loaded(&file[0..n], 8) == expected(n), "{n}");
         if expected(n).is_ok() {
-            assert_eq!(rt; byte(&file[0..n], 0x20), Ok(expected_byte(n, 0x20)));
-            assert_eq!(rt; byte(&file[0..n], 0x21), Ok(expected_byte(n, 0x21)));
+            assert!(rt;
+                byte(&file[0..n], 0x20) == Ok(expected_byte(n, 0x20)),
+                "{n}"
+            );
+            assert!(rt;
+                byte(&file[0..n], 0x21) == Ok(expected_byte(n, 0x21)),
+                "{n}"
+            );
         }
     }
     Ok(())

@@ -1,5 +1,6 @@
-use crate::dumps::{byte, fault, loaded};
-use images::{LoadRefusal, NotLoaded};
+use crate::dumps::{loaded, shows};
+use images::NotLoaded;
+use spaces::Refusal;
 use std::process::Abort;
 use std::test::Fail;
 
@@ -23,27 +24,26 @@ const DUMP: [u8; 110] = *b"\
     EMiL\x01\0\0\0\0\0\0\0\x01\0\0\0\x03\0\0\0\x01\0\0\0\0\0\0\0\0\0\0\0\
     4GiB";
 
+const SHOWN: &[(u64, Result<u8, u8>)] = &[
+    (0x9_fbf7, Err(1)),
+    (0x9_fbf8, Ok(b'l')),
+    (0x9_fbff, Ok(b'd')),
+    (0x9_fc00, Err(1)),
+    (0xffff_ffff, Err(1)),
+    (0x1_0000_0000, Ok(b'4')),
+    (0x1_0000_0003, Ok(b'B')),
+    (0x1_0000_0004, Err(1)),
+    (0x1234_5678_9abc_def0, Ok(b'h')),
+    (0x1234_5678_9abc_def1, Ok(b'i')),
+    (0x1234_5678_9abc_def2, Err(1)),
+    // the same digits with the lowest byte last
+    (0xf0de_bc9a_7856_3412, Err(1)),
+];
+
 #[test]
 fn a_dump_of_the_published_struct(rt: HostRuntime) {
-    assert_eq!(rt; loaded(&DUMP, 8), Ok(3));
-    let cases = [
-        (0x9_fbf7, fault(0x9_fbf7, 1)),
-        (0x9_fbf8, Ok(b'l')),
-        (0x9_fbff, Ok(b'd')),
-        (0x9_fc00, fault(0x9_fc00, 1)),
-        (0xffff_ffff, fault(0xffff_ffff, 1)),
-        (0x1_0000_0000, Ok(b'4')),
-        (0x1_0000_0003, Ok(b'B')),
-        (0x1_0000_0004, fault(0x1_0000_0004, 1)),
-        (0x1234_5678_9abc_def0, Ok(b'h')),
-        (0x1234_5678_9abc_def1, Ok(b'i')),
-        (0x1234_5678_9abc_def2, fault(0x1234_5678_9abc_def2, 1)),
-        // the same digits with the lowest byte last
-        (0xf0de_bc9a_7856_3412, fault(0xf0de_bc9a_7856_3412, 1)),
-    ];
-    for (at, expected) in cases {
-        assert_eq!(rt; byte(&DUMP, at), Ok(expected));
-    }
+    assert!(rt; loaded(&DUMP, 8) == Ok(3));
+    shows(&rt, &DUMP, SHOWN);
 }
 
 // The first header with one byte changed.
@@ -52,14 +52,14 @@ fn loads_with(rt: &impl Abort, place: usize, value: u8, expected: Result<usize, 
     if let Some(slot) = dump.get_mut(place) {
         *slot = value;
     }
-    assert_eq!(rt; loaded(&dump, 8), expected, "{place}");
+    assert!(rt; loaded(&dump, 8) == expected, "{place}");
 }
 
 // Each byte of the magic and of the version counts, and no reserved one.
 #[test]
 fn each_byte_of_a_header(rt: HostRuntime) -> Result<(), Fail> {
     let bad = Err(NotLoaded {
-        refusal: LoadRefusal::BadHeader,
+        refusal: Refusal::BadHeader,
         place: 0,
         written: 0,
     });

@@ -1,5 +1,6 @@
-use numbers::Numbered;
 use packets::{Item, hear};
+use spaces::Numbered;
+use std::alloc::AllocError;
 use std::process::Abort;
 use std::test::Fail;
 
@@ -24,7 +25,7 @@ fn hears(rt: &impl Abort, received: &[u8], item: Item, said: Said) {
     let heard = hear(received);
     let refusal = heard.refusal().map(|refusal| refusal.number());
     let says = (heard.used(), refusal, heard.due());
-    assert_eq!(rt; (heard, says), (item, said), "{received:?}");
+    assert!(rt; heard == item && says == said, "{received:?}");
 }
 
 #[test]
@@ -42,60 +43,60 @@ fn single_bytes(rt: HostRuntime) {
     }
 }
 
+const GOOD: &[(&str, &str, usize)] = &[
+    ("$#00", "", 4),
+    ("$?#3f", "?", 5),
+    ("$?#3F", "?", 5),
+    ("$j#6A", "j", 5),
+    ("$vMustReplyEmpty#3a", "vMustReplyEmpty", 19),
+    // a `$` within
+    ("$$#24", "$", 5),
+    ("$a$b#e7", "a$b", 7),
+    // more behind
+    ("$#00#00", "", 4),
+    ("$g#67$?#3f", "g", 5),
+    ("$g#670", "g", 5),
+];
+
 #[test]
 fn good_frames(rt: HostRuntime) {
-    let cases = [
-        ("$#00", "", 4),
-        ("$?#3f", "?", 5),
-        ("$?#3F", "?", 5),
-        ("$j#6A", "j", 5),
-        ("$vMustReplyEmpty#3a", "vMustReplyEmpty", 19),
-        // a `$` within
-        ("$$#24", "$", 5),
-        ("$a$b#e7", "a$b", 7),
-        // more behind
-        ("$#00#00", "", 4),
-        ("$g#67$?#3f", "g", 5),
-        ("$g#670", "g", 5),
-    ];
-    for (received, payload, used) in cases {
+    for (received, payload, used) in GOOD {
         let received = received.as_bytes();
         let payload = payload.as_bytes();
-        hears(&rt, received, Item::Packet { payload }, good(used));
+        hears(&rt, received, Item::Packet { payload }, good(*used));
         // before its last byte it is unfinished
-        for cut in 0..used.min(received.len()) {
+        for cut in 0..received.len().min(*used) {
             hears(&rt, &received[..cut], Item::Unfinished, NOTHING);
         }
     }
 }
 
+const WRONG: &[(&str, usize)] = &[
+    ("$?#40", 5),
+    ("$?#3e", 5),
+    ("$?#f3", 5),
+    ("$#01", 4),
+    ("$##00", 4),
+    ("$g##67", 5),
+    ("$a#b#e6", 5),
+    ("$j#6g", 5),
+    ("$j#g6", 5),
+    ("$j#+a", 5),
+    ("$\n#+a", 5),
+    ("$j# 6a", 5),
+    ("$$?#3f", 6),
+    ("$?#40$?#3f", 5),
+];
+
+const UNFINISHED: &[&str] = &["$##", "$?#4", "$?#z", "$-", "$+$"];
+
 #[test]
 fn wrong_frames(rt: HostRuntime) {
-    let cases = [
-        ("$?#40", 5),
-        ("$?#3e", 5),
-        ("$?#f3", 5),
-        ("$#01", 4),
-        ("$##00", 4),
-        ("$g##67", 5),
-        ("$a#b#e6", 5),
-        ("$j#6g", 5),
-        ("$j#g6", 5),
-        ("$j#+a", 5),
-        ("$\n#+a", 5),
-        ("$j# 6a", 5),
-        ("$$?#3f", 6),
-        ("$?#40$?#3f", 5),
-    ];
-    for (received, used) in cases {
-        hears(
-            &rt,
-            received.as_bytes(),
-            Item::WrongSum { used },
-            wrong_sum(used),
-        );
+    for (received, used) in WRONG {
+        let item = Item::WrongSum { used: *used };
+        hears(&rt, received.as_bytes(), item, wrong_sum(*used));
     }
-    for received in ["$##", "$?#4", "$?#z", "$-", "$+$"] {
+    for received in UNFINISHED {
         hears(&rt, received.as_bytes(), Item::Unfinished, NOTHING);
     }
 }
@@ -110,35 +111,40 @@ fn sums(rt: HostRuntime) {
                 _ => b'-',
             };
             let received = [b'$', b'j', b'#', high, low];
-            assert_eq!(rt; hear(&received).due(), Some(due), "{high} and {low}");
+            assert!(rt; hear(&received).due() == Some(due), "{high} and {low}");
         }
     }
 }
 
+// A `$` and 4,096 letters, whose sum is 4,096 times 0x61, and so 00, with this behind them.
+fn hears_long(
+    rt: &(impl Abort + AllocGlobal),
+    end: &str,
+    item: Item,
+    said: Said,
+) -> Result<(), AllocError> {
+    let mut received = Vec::new(rt.alloc());
+    received.push(b'$')?;
+    received.extend_from_slice(&[b'a'; 4_096])?;
+    received.extend_from_slice(end.as_bytes())?;
+    hears(rt, &received, item, said);
+    Ok(())
+}
+
 #[test]
 fn long_frames(rt: HostRuntime) -> Result<(), Fail> {
-    // 4,096 letters have the sum 4,096 times 0x61, and so 00; with one more it is 61
+    for end in ["", "#", "#0"] {
+        hears_long(&rt, end, Item::Unfinished, NOTHING)?;
+    }
     let payload = [b'a'; 4_096];
-    let whole = Item::Packet { payload: &payload };
+    for end in ["#00", "#00$?#3f"] {
+        hears_long(&rt, end, Item::Packet { payload: &payload }, good(4_100))?;
+    }
     let wrong = Item::WrongSum { used: 4_100 };
-    // what comes behind a `$` and these
-    let cases = [
-        ("", Item::Unfinished, NOTHING),
-        ("#", Item::Unfinished, NOTHING),
-        ("#0", Item::Unfinished, NOTHING),
-        ("#00", whole, good(4_100)),
-        ("#00$?#3f", whole, good(4_100)),
-        ("#01", wrong, wrong_sum(4_100)),
-        ("a", Item::NoEnd, NO_END),
-        ("a#61", Item::NoEnd, NO_END),
-        ("aaaa", Item::NoEnd, NO_END),
-    ];
-    for (end, item, said) in cases {
-        let mut received = Vec::new(rt.alloc());
-        received.push(b'$')?;
-        received.extend_from_slice(&payload)?;
-        received.extend_from_slice(end.as_bytes())?;
-        hears(&rt, &received, item, said);
+    hears_long(&rt, "#01", wrong, wrong_sum(4_100))?;
+    // with one letter more there is no end; the sum of these is 61
+    for end in ["a", "a#61", "aaaa"] {
+        hears_long(&rt, end, Item::NoEnd, NO_END)?;
     }
     Ok(())
 }
