@@ -1,7 +1,6 @@
 use crate::talk::dialogue;
 use carts::{RANGES, cr3_in, load_cart};
-use images::LimeRange;
-use spaces::Refusal;
+use images::{LimeRange, LoadRefusal};
 use std::alloc::AllocError;
 use std::test::Fail;
 
@@ -64,7 +63,7 @@ fn the_first_65536_bytes_count(rt: HostRuntime) -> Result<(), Fail> {
 }
 
 // So many ranges of one address each.
-fn ranges(rt: &HostRuntime, count: u8) -> Result<Option<Refusal>, Fail> {
+fn ranges(rt: &HostRuntime, count: u8) -> Result<Option<LoadRefusal>, Fail> {
     let mut dump = Vec::new(rt.alloc());
     for n in 0..count {
         let at = 16 * n as u64;
@@ -78,7 +77,7 @@ fn ranges(rt: &HostRuntime, count: u8) -> Result<Option<Refusal>, Fail> {
 fn at_most_64_ranges(rt: HostRuntime) -> Result<(), Fail> {
     assert!(rt; ranges(&rt, 63)?.is_none());
     assert!(rt; ranges(&rt, 64)?.is_none());
-    assert!(rt; ranges(&rt, 65)? == Some(Refusal::TableFull));
+    assert!(rt; ranges(&rt, 65)? == Some(LoadRefusal::TableFull));
     Ok(())
 }
 

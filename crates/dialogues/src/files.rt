@@ -1,7 +1,8 @@
 use crate::piles::{counting, windowed};
 use crate::talk::{apply, begun, ended, replies};
-use patchfiles::Stopped;
-use spaces::{Numbered, Refusal};
+use numbers::Numbered;
+use patchfiles::{PatchFileRefusal, Stopped};
+use spaces::EditRefusal;
 use std::process::Abort;
 
 type Raw = [u8; 16];
@@ -19,7 +20,7 @@ fn clear(address: u64, depth: u8) -> Raw {
     record(address, depth, 0, 0)
 }
 
-fn stopped(refusal: Refusal, index: usize) -> Result<usize, Stopped> {
+fn stopped(refusal: PatchFileRefusal, index: usize) -> Result<usize, Stopped> {
     Err(Stopped { refusal, index })
 }
 
@@ -91,8 +92,8 @@ fn bytes_of_a_file(rt: HostRuntime) {
 
 #[test]
 fn refusals_have_their_numbers(rt: HostRuntime) {
-    assert!(rt; Refusal::BadLength.number() == 0x3a);
-    assert!(rt; Refusal::BadRecord.number() == 0x3b);
+    assert!(rt; PatchFileRefusal::BadLength.number() == 0x3a);
+    assert!(rt; PatchFileRefusal::BadRecord.number() == 0x3b);
 }
 
 // It counts before the form of a record does.
@@ -102,7 +103,7 @@ fn wrong_lengths(rt: HostRuntime) {
         let both = [raw, raw];
         for length in [1, 15, 17, 31] {
             let file = &both.as_flattened()[..length];
-            applies(&rt, file, stopped(Refusal::BadLength, 0), SAME);
+            applies(&rt, file, stopped(PatchFileRefusal::BadLength, 0), SAME);
         }
     }
 }
@@ -117,7 +118,7 @@ fn malformed(rt: &impl Abort, raw: Raw) {
         ([good, raw, raw], 1),
         ([early, good, raw], 2),
     ] {
-        let expected = stopped(Refusal::BadRecord, index);
+        let expected = stopped(PatchFileRefusal::BadRecord, index);
         applies(rt, records.as_flattened(), expected, SAME);
     }
 }
@@ -151,7 +152,7 @@ fn refused(rt: &impl Abort, raw: Raw) {
         ([good, raw, other], 1, changed),
         ([good, clear(7, 2), raw], 2, changed),
     ] {
-        let expected = stopped(Refusal::NoOverlay, index);
+        let expected = stopped(PatchFileRefusal::Edit(EditRefusal::NoOverlay), index);
         applies(rt, records.as_flattened(), expected, bytes);
     }
 }
@@ -171,7 +172,7 @@ fn too_many_patches(rt: HostRuntime) {
     for (slot, address) in full.iter_mut().zip(0..257) {
         *slot = set(address, 0, 0x5a);
     }
-    let stop = stopped(Refusal::TooManyPatches, 256);
+    let stop = stopped(PatchFileRefusal::Edit(EditRefusal::TooManyPatches), 256);
     let session = apply(
         &rt,
         begun(counting(0x200)),

@@ -1,9 +1,9 @@
 use crate::piles::{counting, windowed};
 use crate::talk::{dialogue, framed, replayed};
 use packets::{Item, REPLY};
-use patchfiles::Stopped;
+use patchfiles::{PatchFileRefusal, Stopped};
 use sessions::{Call, Outcome, Slot};
-use spaces::{Refusal, Space};
+use spaces::Space;
 use std::process::Abort;
 
 // A place before a call: it has an outcome that no call here has.
@@ -87,7 +87,7 @@ const IN_TURN: &[Turn<'static>] = &[
     (
         Call::Apply(b"short"),
         Outcome::Applied(Err(Stopped {
-            refusal: Refusal::BadLength,
+            refusal: PatchFileRefusal::BadLength,
             index: 0,
         })),
         "",

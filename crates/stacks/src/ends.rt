@@ -2,7 +2,7 @@ use crate::steps::Step::{self, Byte, Clear, Fill, Set};
 use crate::steps::steps;
 use outsiders::Ramp;
 use overlays::Overlay;
-use spaces::{Fault, Refusal};
+use spaces::{EditRefusal, Fault};
 
 const LAST: u64 = u64::MAX;
 
@@ -12,7 +12,7 @@ const SET_TO_THE_LAST: &[Step] = &[
     Set(0, LAST - 1, b"xy", Ok(())),
     Byte(LAST - 1, Ok(b'x')),
     Byte(LAST, Ok(b'y')),
-    Set(0, LAST, b"yz", Err(Refusal::PastTheEnd)),
+    Set(0, LAST, b"yz", Err(EditRefusal::PastTheEnd)),
     Byte(LAST, Ok(b'y')),
     Fill(LAST - 1, b"xy..", 2, None),
 ];
@@ -20,7 +20,7 @@ const SET_TO_THE_LAST: &[Step] = &[
 const CLEAR_TO_THE_LAST: &[Step] = &[
     Set(0, LAST, b"y", Ok(())),
     Set(0, 0, b"x", Ok(())),
-    Clear(0, 2, LAST, Err(Refusal::PastTheEnd)),
+    Clear(0, 2, LAST, Err(EditRefusal::PastTheEnd)),
     Byte(LAST, Ok(b'y')),
     Clear(0, 0, LAST, Ok(())),
     Byte(LAST, Ok(b'y')),
@@ -38,12 +38,12 @@ const CLEAR_TO_THE_LAST: &[Step] = &[
 
 // The first refusal that applies counts.
 const REFUSALS: &[Step] = &[
-    Set(7, LAST - 1, MANY, Err(Refusal::PastTheEnd)),
-    Set(0, LAST - 1, MANY, Err(Refusal::PastTheEnd)),
-    Set(1, 0, MANY, Err(Refusal::NoOverlay)),
-    Set(255, 0, b"x", Err(Refusal::NoOverlay)),
-    Set(0, 0, MANY, Err(Refusal::TooManyPatches)),
-    Clear(1, 0, 9, Err(Refusal::NoOverlay)),
+    Set(7, LAST - 1, MANY, Err(EditRefusal::PastTheEnd)),
+    Set(0, LAST - 1, MANY, Err(EditRefusal::PastTheEnd)),
+    Set(1, 0, MANY, Err(EditRefusal::NoOverlay)),
+    Set(255, 0, b"x", Err(EditRefusal::NoOverlay)),
+    Set(0, 0, MANY, Err(EditRefusal::TooManyPatches)),
+    Clear(1, 0, 9, Err(EditRefusal::NoOverlay)),
     Byte(0, Ok(0)),
 ];
 
@@ -53,8 +53,8 @@ const EMPTY: &[Step] = &[
     Set(0, 1, b"", Ok(())),
     Clear(0, 1, 0, Ok(())),
     Set(0, LAST, b"", Ok(())),
-    Set(1, 1, b"", Err(Refusal::NoOverlay)),
-    Clear(1, 1, 0, Err(Refusal::NoOverlay)),
+    Set(1, 1, b"", Err(EditRefusal::NoOverlay)),
+    Clear(1, 1, 0, Err(EditRefusal::NoOverlay)),
     Byte(0, Ok(0)),
     Byte(1, Ok(b'x')),
 ];

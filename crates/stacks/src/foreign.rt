@@ -2,7 +2,7 @@ use crate::steps::Step::{self, Located, Watch};
 use crate::steps::steps;
 use outsiders::{Ramp, Spare, Window, byte_in_window, patch_under_window};
 use overlays::Overlay;
-use spaces::{Fault, Refusal, Watched};
+use spaces::{EditRefusal, Fault, Watched};
 
 // A window on addresses 4 to 19 of an overlay on sixteen bytes that count up.
 fn window() -> Window<Overlay<Ramp>> {
@@ -115,7 +115,7 @@ const OFF_THE_TRAIL: &[Step] = &[
         0,
         Watched {
             before: Ok(b'M'),
-            outcome: Err(Refusal::NoOverlay),
+            outcome: Err(EditRefusal::NoOverlay),
             after: Ok(b'M'),
         },
     ),

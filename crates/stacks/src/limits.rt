@@ -2,15 +2,15 @@ use crate::steps::Step::{self, Byte, Bytes, Clear, Fill, Set};
 use crate::steps::steps;
 use outsiders::Ramp;
 use overlays::{Overlay, PatchTable};
-use spaces::{Refusal, Space};
+use spaces::{EditRefusal, Space};
 
 // With 256 patches one more is refused.
 const ONE_MORE: &[Step] = &[
     Set(0, 0, &[7; 256], Ok(())),
-    Set(0, 256, &[9], Err(Refusal::TooManyPatches)),
+    Set(0, 256, &[9], Err(EditRefusal::TooManyPatches)),
     Byte(255, Ok(7)),
     Byte(256, Ok(0)),
-    Set(0, 100, &[9; 200], Err(Refusal::TooManyPatches)),
+    Set(0, 100, &[9; 200], Err(EditRefusal::TooManyPatches)),
     Byte(100, Ok(7)),
 ];
 
@@ -28,14 +28,14 @@ const REPLACED: &[Step] = &[
 // With 255 patches, what is new is counted and not what is replaced.
 const OLD_AND_NEW: &[Step] = &[
     Set(0, 0, &[7; 255], Ok(())),
-    Set(0, 254, &[1, 2, 3], Err(Refusal::TooManyPatches)),
+    Set(0, 254, &[1, 2, 3], Err(EditRefusal::TooManyPatches)),
     Byte(254, Ok(7)),
     Byte(255, Ok(255)),
     Set(0, 254, &[1, 2], Ok(())),
     Byte(253, Ok(7)),
     Byte(254, Ok(1)),
     Byte(255, Ok(2)),
-    Set(0, 256, &[3], Err(Refusal::TooManyPatches)),
+    Set(0, 256, &[3], Err(EditRefusal::TooManyPatches)),
 ];
 
 // A clear takes back its addresses alone.

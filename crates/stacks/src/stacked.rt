@@ -2,7 +2,7 @@ use crate::steps::Step::{self, Byte, Clear, Fill, Set};
 use crate::steps::steps;
 use outsiders::Ramp;
 use overlays::Overlay;
-use spaces::{Fault, Refusal};
+use spaces::{EditRefusal, Fault};
 
 const MIDDLE: &[Step] = &[
     Set(1, 2, b"mid", Ok(())),
@@ -34,10 +34,10 @@ const COVERED: &[Step] = &[
 // Each overlay has room for 256 patches of its own.
 const LIMITS: &[Step] = &[
     Set(1, 0, &[1; 256], Ok(())),
-    Set(1, 256, &[1], Err(Refusal::TooManyPatches)),
+    Set(1, 256, &[1], Err(EditRefusal::TooManyPatches)),
     Set(0, 256, &[1; 256], Ok(())),
     Set(2, 256, &[1; 256], Ok(())),
-    Set(3, 0, &[1], Err(Refusal::NoOverlay)),
+    Set(3, 0, &[1], Err(EditRefusal::NoOverlay)),
 ];
 
 // A fault climbs through all.

@@ -1,13 +1,13 @@
-use spaces::{Fault, Refusal, Space, Watched, locate, watched_set};
+use spaces::{EditRefusal, Fault, Space, Watched, locate, watched_set};
 use std::process::Abort;
 
 // What is done to a space, and what it answers.
 #[derive(Clone, Copy)]
 pub(crate) enum Step<'a> {
     // A set at a depth, from an address on.
-    Set(u8, u64, &'a [u8], Result<(), Refusal>),
+    Set(u8, u64, &'a [u8], Result<(), EditRefusal>),
     // A clear of so many addresses.
-    Clear(u8, u64, u64, Result<(), Refusal>),
+    Clear(u8, u64, u64, Result<(), EditRefusal>),
     // A read of an address.
     Byte(u64, Result<u8, Fault>),
     // Reads of as many addresses, one by one.

@@ -1,6 +1,6 @@
 use outsiders::Ramp;
 use overlays::Overlay;
-use spaces::{Fault, Refusal, Space};
+use spaces::{EditRefusal, Fault, Space};
 use std::process::Abort;
 use std::test::Fail;
 
@@ -11,7 +11,7 @@ const SHOWN: [u8; 13] = *b"A\x01BC\x04\x05\x06DE\xee\xeeF\xee";
 // How many of them from each on have a byte.
 const UNBROKEN: [usize; 13] = [9, 8, 7, 6, 5, 4, 3, 2, 1, 0, 0, 1, 0];
 
-fn patched() -> Result<Overlay<Ramp>, Refusal> {
+fn patched() -> Result<Overlay<Ramp>, EditRefusal> {
     let mut space = Overlay::new(Ramp { length: 8 });
     space.set(0, 0, b"A")?;
     space.set(0, 2, b"BC")?;

@@ -1,7 +1,7 @@
 use crate::steps::Step::{self, Byte, Clear, Fill, Set};
 use crate::steps::steps;
 use outsiders::{Ramp, Window};
-use spaces::{Fault, Refusal};
+use spaces::{EditRefusal, Fault};
 
 // Behind the last byte below.
 const BELOW: Fault = Fault {
@@ -23,9 +23,9 @@ const STACKED: &[Step] = &[
             cause: 0x78,
         }),
     ),
-    Set(0, 0, b"x", Err(Refusal::NoOverlay)),
-    Set(2, u64::MAX, b"xy", Err(Refusal::PastTheEnd)),
-    Clear(1, 0, 9, Err(Refusal::NoOverlay)),
+    Set(0, 0, b"x", Err(EditRefusal::NoOverlay)),
+    Set(2, u64::MAX, b"xy", Err(EditRefusal::PastTheEnd)),
+    Clear(1, 0, 9, Err(EditRefusal::NoOverlay)),
     Byte(0, Ok(6)),
 ];
 

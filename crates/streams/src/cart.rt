@@ -1,8 +1,7 @@
 use crate::peers::Pieces;
 use crate::served::sends;
 use carts::{RANGES, load_cart};
-use images::LimeRange;
-use spaces::Refusal;
+use images::{LimeRange, LoadRefusal};
 use std::io::Read;
 use std::process::Abort;
 use std::test::Fail;
@@ -30,7 +29,7 @@ fn cart_sends(
     rt: &(impl Abort + AllocGlobal),
     input: impl Read + Drop,
     expected: &[u8],
-) -> Result<(), Refusal> {
+) -> Result<(), LoadRefusal> {
     let mut memory = [LimeRange::default(); RANGES];
     let cart = load_cart(&DUMP, b"\0\x10", &mut memory)?;
     sends(rt, cart, input, expected);

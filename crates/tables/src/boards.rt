@@ -1,7 +1,7 @@
 use outsiders::Ramp;
 use overlays::Overlay;
 use paging::{Paging, Scheme, Translation};
-use spaces::{Fault, Refusal, Space};
+use spaces::{EditRefusal, Fault, Space};
 use std::process::Abort;
 
 // Memory that has the bytes laid on it and no others. Any other is absent with cause 0x77, two below a paging.
@@ -51,37 +51,37 @@ pub(crate) fn goes(place: Place) -> Result<Translation, Fault> {
 
 // An entry of a page table, which lies there with its lowest byte first.
 pub(crate) trait Entry: Copy {
-    fn lay(self, board: &mut Board, at: u64) -> Result<(), Refusal>;
+    fn lay(self, board: &mut Board, at: u64) -> Result<(), EditRefusal>;
 }
 
 impl Entry for u32 {
-    fn lay(self, board: &mut Board, at: u64) -> Result<(), Refusal> {
+    fn lay(self, board: &mut Board, at: u64) -> Result<(), EditRefusal> {
         board.set(0, at, &self.to_le_bytes())
     }
 }
 
 impl Entry for u64 {
-    fn lay(self, board: &mut Board, at: u64) -> Result<(), Refusal> {
+    fn lay(self, board: &mut Board, at: u64) -> Result<(), EditRefusal> {
         board.set(0, at, &self.to_le_bytes())
     }
 }
 
 // The bytes of an entry as they lie.
 impl<const N: usize> Entry for [u8; N] {
-    fn lay(self, board: &mut Board, at: u64) -> Result<(), Refusal> {
+    fn lay(self, board: &mut Board, at: u64) -> Result<(), EditRefusal> {
         board.set(0, at, &self)
     }
 }
 
 // Lays entries, each at its address.
-pub(crate) fn lay<E: Entry>(board: &mut Board, entries: &[(u64, E)]) -> Result<(), Refusal> {
+pub(crate) fn lay<E: Entry>(board: &mut Board, entries: &[(u64, E)]) -> Result<(), EditRefusal> {
     for (at, entry) in entries {
         entry.lay(board, *at)?;
     }
     Ok(())
 }
 
-pub(crate) fn laid<E: Entry>(entries: &[(u64, E)]) -> Result<Board, Refusal> {
+pub(crate) fn laid<E: Entry>(entries: &[(u64, E)]) -> Result<Board, EditRefusal> {
     let mut board = Overlay::new(Ramp { length: 0 });
     lay(&mut board, entries)?;
     Ok(board)
@@ -108,12 +108,12 @@ impl<'a, P: Scheme + Copy, E: Entry> Tables<'a, P, E> {
         Paging::new(self.scheme, self.cr3, board)
     }
 
-    pub(crate) fn paging(&self) -> Result<Paging<P, Board>, Refusal> {
+    pub(crate) fn paging(&self) -> Result<Paging<P, Board>, EditRefusal> {
         Ok(self.over(laid(self.entries)?))
     }
 
     // Each address goes where it should, or has the fault that it should.
-    pub(crate) fn lead(&self, rt: &impl Abort, cases: &[(u64, Place)]) -> Result<(), Refusal> {
+    pub(crate) fn lead(&self, rt: &impl Abort, cases: &[(u64, Place)]) -> Result<(), EditRefusal> {
         let paging = self.paging()?;
         for (at, place) in cases {
             assert_eq!(rt; paging.translate(*at), goes(*place));
@@ -129,7 +129,7 @@ impl<'a, P: Scheme + Copy, E: Entry> Tables<'a, P, E> {
         at: u64,
         absent: &[u8],
         entries: &[(u64, u8)],
-    ) -> Result<(), Refusal> {
+    ) -> Result<(), EditRefusal> {
         for (place, cause) in entries {
             let mut board = laid(self.entries)?;
             board.set(0, *place, absent)?;
@@ -144,7 +144,7 @@ impl<'a, P: Scheme + Copy, E: Entry> Tables<'a, P, E> {
         rt: &impl Abort,
         at: u64,
         places: &[u64],
-    ) -> Result<(), Refusal> {
+    ) -> Result<(), EditRefusal> {
         for place in places {
             let mut board = laid(self.entries)?;
             board.clear(0, *place, 1)?;
@@ -165,7 +165,7 @@ impl<'a, P: Scheme + Copy, E: Entry> Tables<'a, P, E> {
         entry: u64,
         first: u64,
         count: u64,
-    ) -> Result<(), Refusal> {
+    ) -> Result<(), EditRefusal> {
         let mut board = laid(self.entries)?;
         board.set(0, entry, b"\xfe")?;
         board.clear(0, first, count)?;

@@ -1,6 +1,6 @@
 use crate::boards::{Board, ENTRIES, KIB_4, Missing, Tables, WAY, fault, goes};
 use paging::{FourLevel, Paging};
-use spaces::{Refusal, Space, Watched};
+use spaces::{EditRefusal, Space, Watched};
 use std::test::Fail;
 
 // A byte that is patched right below, and what is then read at the way.
@@ -27,7 +27,7 @@ const PATCHES: [(u64, u8, Result<u8, Missing>); 14] = [
 ];
 
 // The way leads to the page at 0x9000, which has an `x` at 0x567; the page at 0xa000 has a `y` there.
-fn paging() -> Result<Paging<FourLevel, Board>, Refusal> {
+fn paging() -> Result<Paging<FourLevel, Board>, EditRefusal> {
     let tables = Tables::new(FourLevel, 0x1000, &ENTRIES);
     let mut paging = tables.paging()?;
     paging.set(1, 0x9567, b"x")?;
@@ -40,18 +40,24 @@ fn edits_are_made_below(rt: HostRuntime) -> Result<(), Fail> {
     let mut paging = paging()?;
     for depth in [0, 2] {
         for first in [WAY, 0x9567] {
-            assert_eq!(rt; paging.set(depth, first, b"z"), Err(Refusal::NoOverlay));
+            assert_eq!(rt; paging.set(depth, first, b"z"), Err(EditRefusal::NoOverlay));
         }
         for (first, count) in [(0x9567, 1), (1, u64::MAX)] {
-            assert_eq!(rt; paging.clear(depth, first, count), Err(Refusal::NoOverlay));
+            assert_eq!(rt;
+                paging.clear(depth, first, count),
+                Err(EditRefusal::NoOverlay)
+            );
         }
     }
     for depth in [0, 1, 2] {
         assert_eq!(rt;
             paging.set(depth, u64::MAX, b"zz"),
-            Err(Refusal::PastTheEnd)
+            Err(EditRefusal::PastTheEnd)
         );
-        assert_eq!(rt; paging.clear(depth, 2, u64::MAX), Err(Refusal::PastTheEnd));
+        assert_eq!(rt;
+            paging.clear(depth, 2, u64::MAX),
+            Err(EditRefusal::PastTheEnd)
+        );
     }
     assert_eq!(rt; paging.byte(WAY), Ok(b'x'));
     // at depth 1 an address is one below, so it is not led through the tables
@@ -83,7 +89,7 @@ fn a_patch_on_the_way_shows(rt: HostRuntime) -> Result<(), Fail> {
     }
     let refused = Watched {
         before,
-        outcome: Err(Refusal::PastTheEnd),
+        outcome: Err(EditRefusal::PastTheEnd),
         after: before,
     };
     assert_eq!(rt; paging.patch_below(u64::MAX, b"!!", WAY), refused);

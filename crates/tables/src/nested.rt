@@ -1,7 +1,7 @@
 use crate::boards::{Board, Entry, KIB_4, Missing, WAY, fault, goes, laid, lay};
 use overlays::Overlay;
 use paging::{FourLevel, Pae, Paging, Scheme, TwoLevel};
-use spaces::{Refusal, Space};
+use spaces::{EditRefusal, Space};
 use std::process::Abort;
 use std::test::Fail;
 
@@ -71,7 +71,7 @@ fn guest<P: Scheme + Drop, E: Entry>(
     entries: &[(u64, E)],
     place: u64,
     byte: u8,
-) -> Result<Guest<P>, Refusal> {
+) -> Result<Guest<P>, EditRefusal> {
     let mut board = laid(&HOST)?;
     lay(&mut board, entries)?;
     board.set(0, place, &[byte])?;
@@ -79,7 +79,7 @@ fn guest<P: Scheme + Drop, E: Entry>(
     Ok(Paging::new(scheme, cr3, Overlay::new(below)))
 }
 
-fn four_on_four() -> Result<Guest<FourLevel>, Refusal> {
+fn four_on_four() -> Result<Guest<FourLevel>, EditRefusal> {
     guest(FourLevel, 0x1000, &FOUR_LEVELS, 0x6567, b'x')
 }
 
@@ -93,7 +93,7 @@ fn leads<P: Scheme + Drop>(
     byte: u8,
     (entry, absent): (u64, Missing),
     place: u64,
-) -> Result<(), Refusal> {
+) -> Result<(), EditRefusal> {
     assert_eq!(rt; space.translate(at), goes(Ok((address, KIB_4))));
     assert_eq!(rt; space.byte(at), Ok(byte));
     space.set(3, entry, b"\x02")?;
@@ -113,8 +113,8 @@ fn a_guest_on_a_host(rt: HostRuntime) -> Result<(), Fail> {
         Err(fault((0, 0x8000_0000_0000, 0x04)))
     );
     for depth in [0, 2, 4] {
-        assert_eq!(rt; space.set(depth, 0x5567, b"z"), Err(Refusal::NoOverlay));
-        assert_eq!(rt; space.clear(depth, 0x5567, 1), Err(Refusal::NoOverlay));
+        assert_eq!(rt; space.set(depth, 0x5567, b"z"), Err(EditRefusal::NoOverlay));
+        assert_eq!(rt; space.clear(depth, 0x5567, 1), Err(EditRefusal::NoOverlay));
     }
     for (depth, first, value, after) in STEPS {
         assert_eq!(rt; space.set(depth, first, &[value]), Ok(()));

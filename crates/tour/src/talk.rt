@@ -1,8 +1,7 @@
 // What GDB sends, heard item by item, and what is asked for.
 
 use crate::tell::tell_text;
-use packets::{Command, Item, REPLY, digits, frame, hear};
-use spaces::Refusal;
+use packets::{Command, CommandRefusal, FrameRefusal, Item, REPLY, digits, frame, hear};
 use std::{fs, io};
 
 pub(crate) fn hear_talk(rt: &HostRuntime) -> io::Result<()> {
@@ -45,14 +44,14 @@ fn tell_item(rt: &HostRuntime, item: Item<'_>) -> io::Result<()> {
     }
 }
 
-fn tell_refusal(rt: &HostRuntime, refusal: Option<Refusal>) -> io::Result<()> {
+fn tell_refusal(rt: &HostRuntime, refusal: Option<FrameRefusal>) -> io::Result<()> {
     if let Some(refusal) = refusal {
         print!(rt; "refused {refusal}")?;
     }
     println!(rt; "")
 }
 
-fn tell_command(rt: &HostRuntime, asked: Result<Command<'_>, Refusal>) -> io::Result<()> {
+fn tell_command(rt: &HostRuntime, asked: Result<Command<'_>, CommandRefusal>) -> io::Result<()> {
     match asked {
         Err(refusal) => println!(rt; ": refused {refusal}"),
         Ok(Command::WhyHalted) => println!(rt; ": why it halted"),

@@ -3,7 +3,7 @@
 use extents::Table;
 use images::{LimeRange, NotLoaded};
 use paging::{Paging, Scheme};
-use spaces::{Fault, Refusal, Space, Watched, locate, watched_set};
+use spaces::{EditRefusal, Fault, Space, Watched, locate, watched_set};
 use std::io;
 
 pub(crate) fn tell_load(
@@ -70,7 +70,7 @@ pub(crate) fn tell_clear<S: Space>(
     tell_outcome(rt, space.clear(depth, first, count))
 }
 
-fn tell_outcome(rt: &HostRuntime, outcome: Result<(), Refusal>) -> io::Result<()> {
+fn tell_outcome(rt: &HostRuntime, outcome: Result<(), EditRefusal>) -> io::Result<()> {
     match outcome {
         Ok(()) => println!(rt; "done"),
         Err(refusal) => println!(rt; "refused {refusal}"),

@@ -1,6 +1,6 @@
 use crate::dumps::{Range, byte, fault, lay, loaded};
-use images::NotLoaded;
-use spaces::{Fault, Refusal};
+use images::{LoadRefusal, NotLoaded};
+use spaces::Fault;
 use std::test::Fail;
 
 // Where the three headers of the dump below stand.
@@ -14,7 +14,7 @@ fn expected(n: usize) -> Result<usize, NotLoaded> {
         }
         if n - place < 32 {
             return Err(NotLoaded {
-                refusal: Refusal::HeaderCut,
+                refusal: LoadRefusal::HeaderCut,
                 place,
                 written,
             });

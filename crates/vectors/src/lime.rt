@@ -1,14 +1,14 @@
 use crate::dumps::{Range, lay, loaded, shows};
 use extents::Table;
-use images::{LimeRange, NotLoaded, load_lime};
-use spaces::{Numbered, Refusal};
+use images::{LimeRange, LoadRefusal, NotLoaded, load_lime};
+use numbers::Numbered;
 use std::test::Fail;
 
-const NUMBERS: &[(Refusal, u8)] = &[
-    (Refusal::HeaderCut, 0x30),
-    (Refusal::BadHeader, 0x31),
-    (Refusal::Overlap, 0x34),
-    (Refusal::TableFull, 0x35),
+const NUMBERS: &[(LoadRefusal, u8)] = &[
+    (LoadRefusal::HeaderCut, 0x30),
+    (LoadRefusal::BadHeader, 0x31),
+    (LoadRefusal::Overlap, 0x34),
+    (LoadRefusal::TableFull, 0x35),
 ];
 
 #[test]
@@ -19,7 +19,7 @@ fn refusals_have_their_numbers(rt: HostRuntime) {
 }
 
 // A refusal, the place where it stopped, and how many extents are written.
-fn refused((refusal, place, written): (Refusal, usize, usize)) -> NotLoaded {
+fn refused((refusal, place, written): (LoadRefusal, usize, usize)) -> NotLoaded {
     NotLoaded {
         refusal,
         place,
@@ -44,36 +44,36 @@ type Load<'a> = (
     &'a [Range<'a>],
     usize,
     usize,
-    Result<usize, (Refusal, usize, usize)>,
+    Result<usize, (LoadRefusal, usize, usize)>,
 );
 
 const LOADS: &[Load] = &[
     (&[], 0, 0, Ok(0)),
-    (ONE, 31, 8, Err((Refusal::HeaderCut, 0, 0))),
+    (ONE, 31, 8, Err((LoadRefusal::HeaderCut, 0, 0))),
     (ONE, 32, 8, Ok(1)),
-    (TWICE, 37, 8, Err((Refusal::HeaderCut, 36, 1))),
+    (TWICE, 37, 8, Err((LoadRefusal::HeaderCut, 36, 1))),
     (
         &[(b"EMiL\x02", 0, 3, b"")],
         32,
         8,
-        Err((Refusal::BadHeader, 0, 0)),
+        Err((LoadRefusal::BadHeader, 0, 0)),
     ),
     (
         &[(b"LMiL\x01", 0, 3, b"abcd")],
         36,
         8,
-        Err((Refusal::BadHeader, 0, 0)),
+        Err((LoadRefusal::BadHeader, 0, 0)),
     ),
     // the last address is below the first
     (
         &[(b"EMiL\x01", 7, 7, b"x"), (b"EMiL\x01", 4, 3, b"")],
         65,
         8,
-        Err((Refusal::BadHeader, 33, 1)),
+        Err((LoadRefusal::BadHeader, 33, 1)),
     ),
-    (OVERLAPPING, 78, 8, Err((Refusal::Overlap, 42, 1))),
+    (OVERLAPPING, 78, 8, Err((LoadRefusal::Overlap, 42, 1))),
     // 34 before 35
-    (OVERLAPPING, 78, 1, Err((Refusal::Overlap, 42, 1))),
+    (OVERLAPPING, 78, 1, Err((LoadRefusal::Overlap, 42, 1))),
     // 31 before 34 and 35
     (
         &[
@@ -82,7 +82,7 @@ const LOADS: &[Load] = &[
         ],
         74,
         1,
-        Err((Refusal::BadHeader, 42, 1)),
+        Err((LoadRefusal::BadHeader, 42, 1)),
     ),
     (ALL, 35, 1, Ok(1)),
 ];
@@ -119,7 +119,7 @@ fn tables_are_full(rt: HostRuntime) -> Result<(), Fail> {
     let old = extent(7, 8, 9);
     let mut memory = [old; 3];
     let mut table = Table::new(&mut memory[0..2]);
-    let full = refused((Refusal::TableFull, 66, 2));
+    let full = refused((LoadRefusal::TableFull, 66, 2));
     assert!(rt; load_lime(&file, &mut table) == Err(full));
     assert!(rt; table.get(1) == Some(extent(1, 1, 65)) && table.get(2).is_none());
     // later entries are as they were

@@ -1,6 +1,5 @@
 use crate::dumps::{loaded, shows};
-use images::NotLoaded;
-use spaces::Refusal;
+use images::{LoadRefusal, NotLoaded};
 use std::process::Abort;
 use std::test::Fail;
 
@@ -59,7 +58,7 @@ fn loads_with(rt: &impl Abort, place: usize, value: u8, expected: Result<usize, 
 #[test]
 fn each_byte_of_a_header(rt: HostRuntime) -> Result<(), Fail> {
     let bad = Err(NotLoaded {
-        refusal: Refusal::BadHeader,
+        refusal: LoadRefusal::BadHeader,
         place: 0,
         written: 0,
     });

@@ -1,7 +1,7 @@
 use crate::dumps::fault;
 use extents::Table;
-use images::{Image, NotLoaded, RawExtent, load_raw};
-use spaces::{Refusal, Space};
+use images::{Image, LoadRefusal, NotLoaded, RawExtent, load_raw};
+use spaces::{EditRefusal, Space};
 
 #[test]
 fn a_raw_file(rt: HostRuntime) {
@@ -12,10 +12,10 @@ fn a_raw_file(rt: HostRuntime) {
     assert!(rt; image.byte(0) == Ok(b'c'));
     assert!(rt; image.byte(3) == Ok(b't'));
     assert!(rt; image.byte(4) == fault(4, 1));
-    assert!(rt; image.set(0, 0, b"x") == Err(Refusal::NoOverlay));
-    assert!(rt; image.set(9, u64::MAX, b"xy") == Err(Refusal::PastTheEnd));
-    assert!(rt; image.clear(0, u64::MAX, 1) == Err(Refusal::NoOverlay));
-    assert!(rt; image.clear(0, 2, u64::MAX) == Err(Refusal::PastTheEnd));
+    assert!(rt; image.set(0, 0, b"x") == Err(EditRefusal::NoOverlay));
+    assert!(rt; image.set(9, u64::MAX, b"xy") == Err(EditRefusal::PastTheEnd));
+    assert!(rt; image.clear(0, u64::MAX, 1) == Err(EditRefusal::NoOverlay));
+    assert!(rt; image.clear(0, 2, u64::MAX) == Err(EditRefusal::PastTheEnd));
     assert!(rt; image.byte(0) == Ok(b'c'));
 }
 
@@ -25,7 +25,7 @@ fn an_empty_raw_file(rt: HostRuntime) {
     let mut table = Table::new(&mut memory);
     assert!(rt; load_raw(b"", &mut table) == Ok(0));
     let full = Err(NotLoaded {
-        refusal: Refusal::TableFull,
+        refusal: LoadRefusal::TableFull,
         place: 0,
         written: 0,
     });

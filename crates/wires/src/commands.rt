@@ -1,5 +1,5 @@
+use numbers::Numbered;
 use packets::Command;
-use spaces::Numbered;
 use std::process::Abort;
 
 // Payloads with a bar between each and the next, and what they all ask for, or the number of their refusal.

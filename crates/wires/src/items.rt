@@ -1,5 +1,5 @@
+use numbers::Numbered;
 use packets::{Item, hear};
-use spaces::Numbered;
 use std::alloc::AllocError;
 use std::process::Abort;
 use std::test::Fail;
