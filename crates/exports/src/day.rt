@@ -86,7 +86,8 @@ pub extern "C" fn aisle_serve(
     sent: &mut [u8],
     told: &mut Told,
 )
-    ensures refused_dump { IfErr (cart_in dump.now root.now) (λ refusal. TellsOnly told.new sent.old sent.new (refused (load_refusal_number refusal) 0 0)) }
+    ensures refused_dump { IfErr (cart_in dump.now root.now)
+        (λ r. TellsOnly told.new sent.old sent.new (refused (load_refusal_number r) 0 0)) }
     ensures unless_it_breaks_off { IfOk (cart_in dump.now root.now) (λ cart. TellsUnlessItBreaksOff told.new sent.old sent.new cart before.now file.now after.now) }
 {
     let mut memory = [LimeRange::default(); RANGES];

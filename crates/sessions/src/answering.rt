@@ -26,7 +26,8 @@ pub const REGISTERS: usize = 328;
 impl<S: Space> Session<S> {
     fn read(&mut self, first: u64, count: u64, text: &mut [u8; PAYLOAD]) -> usize
         requires { first + count ≤ 2 ^ 64 }
-        ensures { CarriesOut (state S.Space.meaning self.old) (read first count) (state S.Space.meaning self.new) text.new (Ok result) }
+        ensures { CarriesOut (state S.Space.meaning self.old) (read first count)
+            (state S.Space.meaning self.new) text.new (Ok result) }
     {
         let mut bytes = [0; READ];
         let room = count.min(READ as u64) as usize;
@@ -42,7 +43,8 @@ impl<S: Space> Session<S> {
         text: &mut [u8; PAYLOAD],
     ) -> Result<usize, PayloadRefusal>
         requires { first + length (paired pairs.now) ≤ 2 ^ 64 }
-        ensures { CarriesOut (state S.Space.meaning self.old) (write first pairs.now) (state S.Space.meaning self.new) text.new result }
+        ensures { CarriesOut (state S.Space.meaning self.old) (write first pairs.now)
+            (state S.Space.meaning self.new) text.new result }
     {
         let mut bytes = [0; WRITE];
         let count = digits::bytes(pairs, &mut bytes);
@@ -57,7 +59,8 @@ impl<S: Space> Session<S> {
         text: &mut [u8; PAYLOAD],
     ) -> Result<usize, PayloadRefusal>
         requires { end_of (meant command) ≤ 2 ^ 64 }
-        ensures { CarriesOut (state S.Space.meaning self.old) (meant command.entry) (state S.Space.meaning self.new) text.new result }
+        ensures { CarriesOut (state S.Space.meaning self.old) (meant command.entry)
+            (state S.Space.meaning self.new) text.new result }
     {
         Ok(match command {
             Command::WhyHalted => say(b"S05", text),
@@ -77,7 +80,8 @@ impl<S: Space> Session<S> {
 
     // Does what a payload asks for, and writes the text of the reply, unless the payload is refused.
     fn reply(&mut self, payload: &[u8], text: &mut [u8; PAYLOAD]) -> Result<usize, PayloadRefusal>
-        ensures { Replies (state S.Space.meaning self.old) payload.now (state S.Space.meaning self.new) text.new result }
+        ensures { Replies (state S.Space.meaning self.old) payload.now
+            (state S.Space.meaning self.new) text.new result }
     {
         let command = Command::parse(payload)?;
         self.carry_out(command, text)
