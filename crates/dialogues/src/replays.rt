@@ -7,10 +7,12 @@ use spaces::Space;
 use std::process::Abort;
 
 // A place before a call: it has an outcome that no call here has.
-const EMPTY: Slot<'static> = Slot {
-    outcome: Outcome::Answered(0),
-    reply: [b'.'; REPLY],
-};
+fn empty() -> Slot<'static> {
+    Slot {
+        outcome: Outcome::Answered(0),
+        reply: [b'.'; REPLY],
+    }
+}
 
 // The most calls of a replay, and the most places.
 const MOST: usize = 12;
@@ -24,7 +26,7 @@ fn came(rt: &impl Abort, slot: &Slot, turn: &Turn) {
     assert!(rt; slot.outcome == *outcome);
     let reply = match outcome {
         Outcome::Answered(_) => framed(text.as_bytes()),
-        _ => EMPTY.reply,
+        _ => [b'.'; REPLY],
     };
     assert!(rt; slot.reply == reply);
 }
@@ -43,7 +45,7 @@ fn replays<S: Space + Drop>(
         *place = *call;
     }
     let calls = &calls[..turns.len().min(MOST)];
-    let mut slots = [EMPTY; MOST];
+    let mut slots = [empty(); MOST];
     let slots = &mut slots[..places.min(MOST)];
     let (owed, space) = replayed(space, calls, slots);
     assert!(rt; owed == owes);
@@ -51,7 +53,7 @@ fn replays<S: Space + Drop>(
         came(rt, slot, turn);
     }
     for slot in slots.iter().skip(turns.len()) {
-        assert!(rt; slot.outcome == EMPTY.outcome && slot.reply == EMPTY.reply);
+        assert!(rt; slot.outcome == Outcome::Answered(0) && slot.reply == [b'.'; REPLY]);
     }
     space
 }
