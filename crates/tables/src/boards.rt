@@ -33,6 +33,28 @@ pub(crate) type Missing = (u8, u64, u8);
 // A final address and the size of its page, or what is missing on the way.
 pub(crate) type Place = Result<(u64, u64), Missing>;
 
+// An edit: the first address, and the bytes or how many addresses.
+#[derive(Clone, Copy)]
+pub(crate) enum Change {
+    Set(u64, &'static [u8]),
+    Clear(u64, u64),
+}
+
+impl Change {
+    fn make<S: Space>(self, space: &mut S, depth: u8) -> Result<(), Refusal> {
+        match self {
+            Change::Set(first, bytes) => space.set(depth, first, bytes),
+            Change::Clear(first, count) => space.clear(depth, first, count),
+        }
+    }
+}
+
+// Edits of a board, and what is then missing on a way.
+pub(crate) type Break = (&'static [Change], Missing);
+
+// An edit at a depth, what it answers, and what an address then has.
+pub(crate) type Step = (u8, Change, Result<(), Refusal>, Result<u8, Missing>);
+
 // Each crate of tests has such a function of its own, as short as its tests want it.
 pub(crate) fn fault((depth, address, cause): Missing) -> Fault {
     Fault {
@@ -114,66 +136,39 @@ impl<'a, P: Scheme + Copy, E: Entry> Tables<'a, P, E> {
 
     // Each address goes where it should, or has the fault that it should.
     pub(crate) fn lead(&self, rt: &impl Abort, cases: &[(u64, Place)]) -> Result<(), Refusal> {
-        let paging = self.paging()?;
-        for (at, place) in cases {
-            assert_eq!(rt; paging.translate(*at), goes(*place));
-        }
+        translate(rt, &self.paging()?, cases);
         Ok(())
     }
 
-    // An entry with every bit but bit 0, without which it is not present, breaks the walk of an address with the cause of its
-    // level.
-    pub(crate) fn break_at_entries(
-        &self,
-        rt: &impl Abort,
-        at: u64,
-        absent: &[u8],
-        entries: &[(u64, u8)],
-    ) -> Result<(), Refusal> {
-        for (place, cause) in entries {
-            let mut board = laid(self.entries)?;
-            board.set(0, *place, absent)?;
-            assert_eq!(rt; self.over(board).translate(at), Err(fault((0, at, *cause))));
+    // Edits of the board break the walk of an address, each time of the tables as they were.
+    pub(crate) fn breaks(&self, rt: &impl Abort, at: u64, cases: &[Break]) -> Result<(), Refusal> {
+        for (edits, missing) in cases {
+            let mut paging = self.paging()?;
+            for edit in *edits {
+                edit.make(&mut paging, 1)?;
+            }
+            assert_eq!(rt; paging.translate(at), Err(fault(*missing)));
         }
         Ok(())
     }
+}
 
-    // A missing byte of an entry breaks the walk.
-    pub(crate) fn break_at_bytes(
-        &self,
-        rt: &impl Abort,
-        at: u64,
-        places: &[u64],
-    ) -> Result<(), Refusal> {
-        for place in places {
-            let mut board = laid(self.entries)?;
-            board.clear(0, *place, 1)?;
-            assert_eq!(rt;
-                self.over(board).translate(at),
-                Err(fault((2, *place, 0x77)))
-            );
-        }
-        Ok(())
+// Each address goes where it should, or has the fault that it should.
+pub(crate) fn translate<P: Scheme, S: Space>(
+    rt: &impl Abort,
+    paging: &Paging<P, S>,
+    cases: &[(u64, Place)],
+) {
+    for (at, place) in cases {
+        assert_eq!(rt; paging.translate(*at), goes(*place));
     }
+}
 
-    // An entry is read whole, the lowest byte first, before anything of it counts: bit 0 of one is clear, and the first of
-    // some bytes of it that are missing is the fault.
-    pub(crate) fn break_whole(
-        &self,
-        rt: &impl Abort,
-        at: u64,
-        entry: u64,
-        first: u64,
-        count: u64,
-    ) -> Result<(), Refusal> {
-        let mut board = laid(self.entries)?;
-        board.set(0, entry, b"\xfe")?;
-        board.clear(0, first, count)?;
-        assert_eq!(rt;
-            self.over(board).translate(at),
-            Err(fault((2, first, 0x77)))
-        );
-        Ok(())
+// Edits, one after another, and what one address then has.
+pub(crate) fn follow<S: Space>(rt: &impl Abort, space: &mut S, at: u64, steps: &[Step]) {
+    for (depth, edit, outcome, after) in steps {
+        assert_eq!(rt; edit.make(space, *depth), *outcome);
+        assert_eq!(rt; space.byte(at), after.map_err(fault));
     }
 }
 

@@ -1,5 +1,7 @@
-use crate::boards::{Board, ENTRIES, KIB_4, Missing, Tables, WAY, fault, goes};
+use crate::boards::Change::{Clear, Set};
+use crate::boards::{Board, ENTRIES, KIB_4, Missing, Step, Tables, WAY, fault, follow, translate};
 use paging::{FourLevel, Paging};
+use spaces::Refusal::{NoOverlay, PastTheEnd};
 use spaces::{Refusal, Space, Watched};
 use std::test::Fail;
 
@@ -35,35 +37,36 @@ fn paging() -> Result<Paging<FourLevel, Board>, Refusal> {
     Ok(paging)
 }
 
+const STEPS: [Step; 17] = [
+    (0, Set(WAY, b"z"), Err(NoOverlay), Ok(b'x')),
+    (0, Set(0x9567, b"z"), Err(NoOverlay), Ok(b'x')),
+    (0, Clear(0x9567, 1), Err(NoOverlay), Ok(b'x')),
+    (0, Clear(1, u64::MAX), Err(NoOverlay), Ok(b'x')),
+    (2, Set(WAY, b"z"), Err(NoOverlay), Ok(b'x')),
+    (2, Set(0x9567, b"z"), Err(NoOverlay), Ok(b'x')),
+    (2, Clear(0x9567, 1), Err(NoOverlay), Ok(b'x')),
+    (2, Clear(1, u64::MAX), Err(NoOverlay), Ok(b'x')),
+    (0, Set(u64::MAX, b"zz"), Err(PastTheEnd), Ok(b'x')),
+    (0, Clear(2, u64::MAX), Err(PastTheEnd), Ok(b'x')),
+    (1, Set(u64::MAX, b"zz"), Err(PastTheEnd), Ok(b'x')),
+    (1, Clear(2, u64::MAX), Err(PastTheEnd), Ok(b'x')),
+    (2, Set(u64::MAX, b"zz"), Err(PastTheEnd), Ok(b'x')),
+    (2, Clear(2, u64::MAX), Err(PastTheEnd), Ok(b'x')),
+    // at depth 1 an address is one below, so it is not led through the tables
+    (1, Set(WAY, b"z"), Ok(()), Ok(b'x')),
+    (1, Set(0x9567, b"z"), Ok(()), Ok(b'z')),
+    (1, Clear(0x9567, 1), Ok(()), Err((2, 0x9567, 0x77))),
+];
+
+const CLEARED: [Step; 1] = [(1, Clear(0x3018, 0x1010), Ok(()), Err((2, 0x3018, 0x77)))];
+
 #[test]
 fn edits_are_made_below(rt: HostRuntime) -> Result<(), Fail> {
     let mut paging = paging()?;
-    for depth in [0, 2] {
-        for first in [WAY, 0x9567] {
-            assert_eq!(rt; paging.set(depth, first, b"z"), Err(Refusal::NoOverlay));
-        }
-        for (first, count) in [(0x9567, 1), (1, u64::MAX)] {
-            assert_eq!(rt; paging.clear(depth, first, count), Err(Refusal::NoOverlay));
-        }
-    }
-    for depth in [0, 1, 2] {
-        assert_eq!(rt;
-            paging.set(depth, u64::MAX, b"zz"),
-            Err(Refusal::PastTheEnd)
-        );
-        assert_eq!(rt; paging.clear(depth, 2, u64::MAX), Err(Refusal::PastTheEnd));
-    }
-    assert_eq!(rt; paging.byte(WAY), Ok(b'x'));
-    // at depth 1 an address is one below, so it is not led through the tables
-    for (first, after) in [(WAY, b'x'), (0x9567, b'z')] {
-        assert_eq!(rt; paging.set(1, first, b"z"), Ok(()));
-        assert_eq!(rt; paging.byte(WAY), Ok(after));
-    }
-    assert_eq!(rt; paging.clear(1, 0x9567, 1), Ok(()));
-    assert_eq!(rt; paging.byte(WAY), Err(fault((2, 0x9567, 0x77))));
-    assert_eq!(rt; paging.translate(WAY), goes(Ok((0x9567, KIB_4))));
-    assert_eq!(rt; paging.clear(1, 0x3018, 0x1010), Ok(()));
-    assert_eq!(rt; paging.translate(WAY), goes(Err((2, 0x3018, 0x77))));
+    follow(&rt, &mut paging, WAY, &STEPS);
+    translate(&rt, &paging, &[(WAY, Ok((0x9567, KIB_4)))]);
+    follow(&rt, &mut paging, WAY, &CLEARED);
+    translate(&rt, &paging, &[(WAY, Err((2, 0x3018, 0x77)))]);
     Ok(())
 }
 
@@ -83,7 +86,7 @@ fn a_patch_on_the_way_shows(rt: HostRuntime) -> Result<(), Fail> {
     }
     let refused = Watched {
         before,
-        outcome: Err(Refusal::PastTheEnd),
+        outcome: Err(PastTheEnd),
         after: before,
     };
     assert_eq!(rt; paging.patch_below(u64::MAX, b"!!", WAY), refused);
