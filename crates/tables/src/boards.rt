@@ -1,7 +1,7 @@
 use outsiders::Ramp;
 use overlays::Overlay;
 use paging::{Paging, Scheme, Translation};
-use spaces::{EditRefusal, Fault, Space};
+use spaces::{Fault, Refusal, Space};
 use std::process::Abort;
 
 // Memory that has the bytes laid on it and no others. Any other is absent with cause 0x77, two below a paging.
@@ -33,6 +33,28 @@ pub(crate) type Missing = (u8, u64, u8);
 // A final address and the size of its page, or what is missing on the way.
 pub(crate) type Place = Result<(u64, u64), Missing>;
 
+// An edit: the first address, and the bytes or how many addresses.
+#[derive(Clone, Copy)]
+pub(crate) enum Change {
+    Set(u64, &'static [u8]),
+    Clear(u64, u64),
+}
+
+impl Change {
+    fn make<S: Space>(self, space: &mut S, depth: u8) -> Result<(), Refusal> {
+        match self {
+            Change::Set(first, bytes) => space.set(depth, first, bytes),
+            Change::Clear(first, count) => space.clear(depth, first, count),
+        }
+    }
+}
+
+// Edits of a board, and what is then missing on a way.
+pub(crate) type Break = (&'static [Change], Missing);
+
+// An edit at a depth, what it answers, and what an address then has.
+pub(crate) type Step = (u8, Change, Result<(), Refusal>, Result<u8, Missing>);
+
 // Each crate of tests has such a function of its own, as short as its tests want it.
 pub(crate) fn fault((depth, address, cause): Missing) -> Fault {
     Fault {
@@ -51,37 +73,37 @@ pub(crate) fn goes(place: Place) -> Result<Translation, Fault> {
 
 // An entry of a page table, which lies there with its lowest byte first.
 pub(crate) trait Entry: Copy {
-    fn lay(self, board: &mut Board, at: u64) -> Result<(), EditRefusal>;
+    fn lay(self, board: &mut Board, at: u64) -> Result<(), Refusal>;
 }
 
 impl Entry for u32 {
-    fn lay(self, board: &mut Board, at: u64) -> Result<(), EditRefusal> {
+    fn lay(self, board: &mut Board, at: u64) -> Result<(), Refusal> {
         board.set(0, at, &self.to_le_bytes())
     }
 }
 
 impl Entry for u64 {
-    fn lay(self, board: &mut Board, at: u64) -> Result<(), EditRefusal> {
+    fn lay(self, board: &mut Board, at: u64) -> Result<(), Refusal> {
         board.set(0, at, &self.to_le_bytes())
     }
 }
 
 // The bytes of an entry as they lie.
 impl<const N: usize> Entry for [u8; N] {
-    fn lay(self, board: &mut Board, at: u64) -> Result<(), EditRefusal> {
+    fn lay(self, board: &mut Board, at: u64) -> Result<(), Refusal> {
         board.set(0, at, &self)
     }
 }
 
 // Lays entries, each at its address.
-pub(crate) fn lay<E: Entry>(board: &mut Board, entries: &[(u64, E)]) -> Result<(), EditRefusal> {
+pub(crate) fn lay<E: Entry>(board: &mut Board, entries: &[(u64, E)]) -> Result<(), Refusal> {
     for (at, entry) in entries {
         entry.lay(board, *at)?;
     }
     Ok(())
 }
 
-pub(crate) fn laid<E: Entry>(entries: &[(u64, E)]) -> Result<Board, EditRefusal> {
+pub(crate) fn laid<E: Entry>(entries: &[(u64, E)]) -> Result<Board, Refusal> {
     let mut board = Overlay::new(Ramp { length: 0 });
     lay(&mut board, entries)?;
     Ok(board)
@@ -108,72 +130,45 @@ impl<'a, P: Scheme + Copy, E: Entry> Tables<'a, P, E> {
         Paging::new(self.scheme, self.cr3, board)
     }
 
-    pub(crate) fn paging(&self) -> Result<Paging<P, Board>, EditRefusal> {
+    pub(crate) fn paging(&self) -> Result<Paging<P, Board>, Refusal> {
         Ok(self.over(laid(self.entries)?))
     }
 
     // Each address goes where it should, or has the fault that it should.
-    pub(crate) fn lead(&self, rt: &impl Abort, cases: &[(u64, Place)]) -> Result<(), EditRefusal> {
-        let paging = self.paging()?;
-        for (at, place) in cases {
-            assert_eq!(rt; paging.translate(*at), goes(*place));
-        }
+    pub(crate) fn lead(&self, rt: &impl Abort, cases: &[(u64, Place)]) -> Result<(), Refusal> {
+        translate(rt, &self.paging()?, cases);
         Ok(())
     }
 
-    // An entry with every bit but bit 0, without which it is not present, breaks the walk of an address with the cause of its
-    // level.
-    pub(crate) fn break_at_entries(
-        &self,
-        rt: &impl Abort,
-        at: u64,
-        absent: &[u8],
-        entries: &[(u64, u8)],
-    ) -> Result<(), EditRefusal> {
-        for (place, cause) in entries {
-            let mut board = laid(self.entries)?;
-            board.set(0, *place, absent)?;
-            assert_eq!(rt; self.over(board).translate(at), Err(fault((0, at, *cause))));
+    // Edits of the board break the walk of an address, each time of the tables as they were.
+    pub(crate) fn breaks(&self, rt: &impl Abort, at: u64, cases: &[Break]) -> Result<(), Refusal> {
+        for (edits, missing) in cases {
+            let mut paging = self.paging()?;
+            for edit in *edits {
+                edit.make(&mut paging, 1)?;
+            }
+            assert_eq!(rt; paging.translate(at), Err(fault(*missing)));
         }
         Ok(())
     }
+}
 
-    // A missing byte of an entry breaks the walk.
-    pub(crate) fn break_at_bytes(
-        &self,
-        rt: &impl Abort,
-        at: u64,
-        places: &[u64],
-    ) -> Result<(), EditRefusal> {
-        for place in places {
-            let mut board = laid(self.entries)?;
-            board.clear(0, *place, 1)?;
-            assert_eq!(rt;
-                self.over(board).translate(at),
-                Err(fault((2, *place, 0x77)))
-            );
-        }
-        Ok(())
+// Each address goes where it should, or has the fault that it should.
+pub(crate) fn translate<P: Scheme, S: Space>(
+    rt: &impl Abort,
+    paging: &Paging<P, S>,
+    cases: &[(u64, Place)],
+) {
+    for (at, place) in cases {
+        assert_eq!(rt; paging.translate(*at), goes(*place));
     }
+}
 
-    // An entry is read whole, the lowest byte first, before anything of it counts: bit 0 of one is clear, and the first of
-    // some bytes of it that are missing is the fault.
-    pub(crate) fn break_whole(
-        &self,
-        rt: &impl Abort,
-        at: u64,
-        entry: u64,
-        first: u64,
-        count: u64,
-    ) -> Result<(), EditRefusal> {
-        let mut board = laid(self.entries)?;
-        board.set(0, entry, b"\xfe")?;
-        board.clear(0, first, count)?;
-        assert_eq!(rt;
-            self.over(board).translate(at),
-            Err(fault((2, first, 0x77)))
-        );
-        Ok(())
+// Edits, one after another, and what one address then has.
+pub(crate) fn follow<S: Space>(rt: &impl Abort, space: &mut S, at: u64, steps: &[Step]) {
+    for (depth, edit, outcome, after) in steps {
+        assert_eq!(rt; edit.make(space, *depth), *outcome);
+        assert_eq!(rt; space.byte(at), after.map_err(fault));
     }
 }
 

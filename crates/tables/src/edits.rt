@@ -1,6 +1,8 @@
-use crate::boards::{Board, ENTRIES, KIB_4, Missing, Tables, WAY, fault, goes};
+use crate::boards::Change::{Clear, Set};
+use crate::boards::{Board, ENTRIES, KIB_4, Missing, Step, Tables, WAY, fault, follow, translate};
 use paging::{FourLevel, Paging};
-use spaces::{EditRefusal, Space, Watched};
+use spaces::Refusal::{NoOverlay, PastTheEnd};
+use spaces::{Refusal, Space, Watched};
 use std::test::Fail;
 
 // A byte that is patched right below, and what is then read at the way.
@@ -27,7 +29,7 @@ const PATCHES: [(u64, u8, Result<u8, Missing>); 14] = [
 ];
 
 // The way leads to the page at 0x9000, which has an `x` at 0x567; the page at 0xa000 has a `y` there.
-fn paging() -> Result<Paging<FourLevel, Board>, EditRefusal> {
+fn paging() -> Result<Paging<FourLevel, Board>, Refusal> {
     let tables = Tables::new(FourLevel, 0x1000, &ENTRIES);
     let mut paging = tables.paging()?;
     paging.set(1, 0x9567, b"x")?;
@@ -35,41 +37,36 @@ fn paging() -> Result<Paging<FourLevel, Board>, EditRefusal> {
     Ok(paging)
 }
 
+const STEPS: [Step; 17] = [
+    (0, Set(WAY, b"z"), Err(NoOverlay), Ok(b'x')),
+    (0, Set(0x9567, b"z"), Err(NoOverlay), Ok(b'x')),
+    (0, Clear(0x9567, 1), Err(NoOverlay), Ok(b'x')),
+    (0, Clear(1, u64::MAX), Err(NoOverlay), Ok(b'x')),
+    (2, Set(WAY, b"z"), Err(NoOverlay), Ok(b'x')),
+    (2, Set(0x9567, b"z"), Err(NoOverlay), Ok(b'x')),
+    (2, Clear(0x9567, 1), Err(NoOverlay), Ok(b'x')),
+    (2, Clear(1, u64::MAX), Err(NoOverlay), Ok(b'x')),
+    (0, Set(u64::MAX, b"zz"), Err(PastTheEnd), Ok(b'x')),
+    (0, Clear(2, u64::MAX), Err(PastTheEnd), Ok(b'x')),
+    (1, Set(u64::MAX, b"zz"), Err(PastTheEnd), Ok(b'x')),
+    (1, Clear(2, u64::MAX), Err(PastTheEnd), Ok(b'x')),
+    (2, Set(u64::MAX, b"zz"), Err(PastTheEnd), Ok(b'x')),
+    (2, Clear(2, u64::MAX), Err(PastTheEnd), Ok(b'x')),
+    // at depth 1 an address is one below, so it is not led through the tables
+    (1, Set(WAY, b"z"), Ok(()), Ok(b'x')),
+    (1, Set(0x9567, b"z"), Ok(()), Ok(b'z')),
+    (1, Clear(0x9567, 1), Ok(()), Err((2, 0x9567, 0x77))),
+];
+
+const CLEARED: [Step; 1] = [(1, Clear(0x3018, 0x1010), Ok(()), Err((2, 0x3018, 0x77)))];
+
 #[test]
 fn edits_are_made_below(rt: HostRuntime) -> Result<(), Fail> {
     let mut paging = paging()?;
-    for depth in [0, 2] {
-        for first in [WAY, 0x9567] {
-            assert_eq!(rt; paging.set(depth, first, b"z"), Err(EditRefusal::NoOverlay));
-        }
-        for (first, count) in [(0x9567, 1), (1, u64::MAX)] {
-            assert_eq!(rt;
-                paging.clear(depth, first, count),
-                Err(EditRefusal::NoOverlay)
-            );
-        }
-    }
-    for depth in [0, 1, 2] {
-        assert_eq!(rt;
-            paging.set(depth, u64::MAX, b"zz"),
-            Err(EditRefusal::PastTheEnd)
-        );
-        assert_eq!(rt;
-            paging.clear(depth, 2, u64::MAX),
-            Err(EditRefusal::PastTheEnd)
-        );
-    }
-    assert_eq!(rt; paging.byte(WAY), Ok(b'x'));
-    // at depth 1 an address is one below, so it is not led through the tables
-    for (first, after) in [(WAY, b'x'), (0x9567, b'z')] {
-        assert_eq!(rt; paging.set(1, first, b"z"), Ok(()));
-        assert_eq!(rt; paging.byte(WAY), Ok(after));
-    }
-    assert_eq!(rt; paging.clear(1, 0x9567, 1), Ok(()));
-    assert_eq!(rt; paging.byte(WAY), Err(fault((2, 0x9567, 0x77))));
-    assert_eq!(rt; paging.translate(WAY), goes(Ok((0x9567, KIB_4))));
-    assert_eq!(rt; paging.clear(1, 0x3018, 0x1010), Ok(()));
-    assert_eq!(rt; paging.translate(WAY), goes(Err((2, 0x3018, 0x77))));
+    follow(&rt, &mut paging, WAY, &STEPS);
+    translate(&rt, &paging, &[(WAY, Ok((0x9567, KIB_4)))]);
+    follow(&rt, &mut paging, WAY, &CLEARED);
+    translate(&rt, &paging, &[(WAY, Err((2, 0x3018, 0x77)))]);
     Ok(())
 }
 
@@ -89,7 +86,7 @@ fn a_patch_on_the_way_shows(rt: HostRuntime) -> Result<(), Fail> {
     }
     let refused = Watched {
         before,
-        outcome: Err(EditRefusal::PastTheEnd),
+        outcome: Err(PastTheEnd),
         after: before,
     };
     assert_eq!(rt; paging.patch_below(u64::MAX, b"!!", WAY), refused);

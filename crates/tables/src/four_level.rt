@@ -1,4 +1,7 @@
-use crate::boards::{ENTRIES, GIB_1, KIB_4, MIB_2, Missing, Place, Tables, WAY, fill, goes, show};
+use crate::boards::Change::{Clear, Set};
+use crate::boards::{
+    Break, ENTRIES, GIB_1, KIB_4, MIB_2, Missing, Place, Tables, WAY, fill, show, translate,
+};
 use paging::FourLevel;
 use spaces::Space;
 use std::test::Fail;
@@ -107,6 +110,30 @@ const OWN_BYTES: [(u64, Result<u8, Missing>); 8] = [
     (u64::MAX, Ok(0x00)),
 ];
 
+const ABSENT: &[u8] = b"\xfe\xff\xff\xff\xff\xff\xff\xff";
+
+const BREAKS: [Break; 13] = [
+    // every bit but bit 0, without which an entry is not present
+    (&[Set(0x1008, ABSENT)], (0, WAY, 0x14)),
+    (&[Set(0x2010, ABSENT)], (0, WAY, 0x13)),
+    (&[Set(0x3018, ABSENT)], (0, WAY, 0x12)),
+    (&[Set(0x4020, ABSENT)], (0, WAY, 0x11)),
+    // one byte of an entry is missing: its first, one in the middle, its last
+    (&[Clear(0x1008, 1)], (2, 0x1008, 0x77)),
+    (&[Clear(0x100c, 1)], (2, 0x100c, 0x77)),
+    (&[Clear(0x2011, 1)], (2, 0x2011, 0x77)),
+    (&[Clear(0x2017, 1)], (2, 0x2017, 0x77)),
+    (&[Clear(0x301b, 1)], (2, 0x301b, 0x77)),
+    (&[Clear(0x3018, 1)], (2, 0x3018, 0x77)),
+    (&[Clear(0x4024, 1)], (2, 0x4024, 0x77)),
+    (&[Clear(0x4027, 1)], (2, 0x4027, 0x77)),
+    // an entry is read whole, the lowest byte first, before anything of it counts
+    (
+        &[Set(0x2010, b"\xfe"), Clear(0x2013, u64::MAX - 0x2013)],
+        (2, 0x2013, 0x77),
+    ),
+];
+
 #[test]
 fn pages_of_each_size_and_unread_bits(rt: HostRuntime) -> Result<(), Fail> {
     Tables::new(FourLevel, 0x1000, &ENTRIES).lead(&rt, &PLACES)?;
@@ -128,20 +155,7 @@ fn addresses_have_a_lower_and_an_upper_half(rt: HostRuntime) -> Result<(), Fail>
 
 #[test]
 fn entries_that_break_the_walk(rt: HostRuntime) -> Result<(), Fail> {
-    let way = Tables::new(FourLevel, 0x1000, &ENTRIES);
-    let entries = [
-        (0x1008, 0x14),
-        (0x2010, 0x13),
-        (0x3018, 0x12),
-        (0x4020, 0x11),
-    ];
-    way.break_at_entries(&rt, WAY, b"\xfe\xff\xff\xff\xff\xff\xff\xff", &entries)?;
-    // its first byte, one in the middle, its last
-    let bytes = [
-        0x1008, 0x100c, 0x2011, 0x2017, 0x301b, 0x3018, 0x4024, 0x4027,
-    ];
-    way.break_at_bytes(&rt, WAY, &bytes)?;
-    way.break_whole(&rt, WAY, 0x2010, 0x2013, u64::MAX - 0x2013)?;
+    Tables::new(FourLevel, 0x1000, &ENTRIES).breaks(&rt, WAY, &BREAKS)?;
     Ok(())
 }
 
@@ -153,7 +167,7 @@ fn a_table_that_points_at_itself(rt: HostRuntime) -> Result<(), Fail> {
     show(&rt, &paging, &OWN_BYTES);
     // with bit 7 the entry is still a table at level 4, and at level 3 it is a page of 1 GiB whose base is 0
     paging.set(1, 0x1000, b"\x83")?;
-    assert_eq!(rt; paging.translate(0), goes(Ok((0, GIB_1))));
+    translate(&rt, &paging, &[(0, Ok((0, GIB_1)))]);
     show(&rt, &paging, &[(0, Err((2, 0, 0x77))), (0x1000, Ok(0x83))]);
     Ok(())
 }

@@ -1,4 +1,5 @@
-use crate::boards::{KIB_4, MIB_2, Place, Tables, fault, goes};
+use crate::boards::Change::{Clear, Set};
+use crate::boards::{Break, KIB_4, MIB_2, Place, Tables, translate};
 use paging::Pae;
 use spaces::Space;
 use std::test::Fail;
@@ -67,6 +68,36 @@ const ROOTS: [(u64, u64); 6] = [
     (0xffff_ffe0, 0xffff_fff8),
 ];
 
+const ABSENT: &[u8] = b"\xfe\xff\xff\xff\xff\xff\xff\xff";
+
+const BREAKS: [Break; 10] = [
+    // every bit but bit 0, without which an entry is not present
+    (&[Set(0x1038, ABSENT)], (0, WAY, 0x13)),
+    (&[Set(0x9_8765_4321_0058, ABSENT)], (0, WAY, 0x12)),
+    (&[Set(0xf_ffff_ffff_f010, ABSENT)], (0, WAY, 0x11)),
+    // one byte of an entry is missing: its first, one in the middle, its last
+    (&[Clear(0x1038, 1)], (2, 0x1038, 0x77)),
+    (&[Clear(0x103c, 1)], (2, 0x103c, 0x77)),
+    (
+        &[Clear(0x9_8765_4321_005b, 1)],
+        (2, 0x9_8765_4321_005b, 0x77),
+    ),
+    (
+        &[Clear(0x9_8765_4321_005f, 1)],
+        (2, 0x9_8765_4321_005f, 0x77),
+    ),
+    (
+        &[Clear(0xf_ffff_ffff_f010, 1)],
+        (2, 0xf_ffff_ffff_f010, 0x77),
+    ),
+    (
+        &[Clear(0xf_ffff_ffff_f012, 1)],
+        (2, 0xf_ffff_ffff_f012, 0x77),
+    ),
+    // an entry is read whole, the lowest byte first, before anything of it counts
+    (&[Set(0x1038, b"\xfe"), Clear(0x103d, 3)], (2, 0x103d, 0x77)),
+];
+
 #[test]
 fn pages_of_both_sizes_and_unread_bits(rt: HostRuntime) -> Result<(), Fail> {
     Tables::new(Pae, 0x1020, &ENTRIES).lead(&rt, &PLACES)?;
@@ -85,33 +116,16 @@ fn the_root_is_not_rounded_to_a_page(rt: HostRuntime) -> Result<(), Fail> {
             cr3,
             &[(place, 0x2003_u64), (0x2000, 0x60_0083)],
         ).paging()?;
-        assert_eq!(rt; paging.translate(0xc000_1234), goes(Ok((0x60_1234, MIB_2))));
+        translate(&rt, &paging, &[(0xc000_1234, Ok((0x60_1234, MIB_2)))]);
         // without the first byte of the entry
         paging.clear(1, place, 1)?;
-        assert_eq!(rt; paging.translate(0xc000_0000), Err(fault((2, place, 0x77))));
+        translate(&rt, &paging, &[(0xc000_0000, Err((2, place, 0x77)))]);
     }
     Ok(())
 }
 
 #[test]
 fn entries_that_break_the_walk(rt: HostRuntime) -> Result<(), Fail> {
-    let way = Tables::new(Pae, 0x1020, &ENTRIES);
-    let entries = [
-        (0x1038, 0x13),
-        (0x9_8765_4321_0058, 0x12),
-        (0xf_ffff_ffff_f010, 0x11),
-    ];
-    way.break_at_entries(&rt, WAY, b"\xfe\xff\xff\xff\xff\xff\xff\xff", &entries)?;
-    // its first byte, one in the middle, its last
-    let bytes = [
-        0x1038,
-        0x103c,
-        0x9_8765_4321_005b,
-        0x9_8765_4321_005f,
-        0xf_ffff_ffff_f010,
-        0xf_ffff_ffff_f012,
-    ];
-    way.break_at_bytes(&rt, WAY, &bytes)?;
-    way.break_whole(&rt, WAY, 0x1038, 0x103d, 3)?;
+    Tables::new(Pae, 0x1020, &ENTRIES).breaks(&rt, WAY, &BREAKS)?;
     Ok(())
 }

@@ -1,4 +1,5 @@
-use crate::boards::{KIB_4, MIB_4, Place, Tables};
+use crate::boards::Change::{Clear, Set};
+use crate::boards::{Break, KIB_4, MIB_4, Place, Tables};
 use paging::TwoLevel;
 use std::test::Fail;
 
@@ -52,6 +53,26 @@ const LARGE_PLACES: [(u64, Place); 8] = [
     (0xc0_6000, Err((2, 0x2018, 0x77))),
 ];
 
+const ABSENT: &[u8] = b"\xfe\xff\xff\xff";
+
+const BREAKS: [Break; 9] = [
+    // every bit but bit 0, without which an entry is not present
+    (&[Set(0x1c08, ABSENT)], (0, WAY, 0x12)),
+    (&[Set(0xf000_5004, ABSENT)], (0, WAY, 0x11)),
+    // one byte of an entry is missing: its first, one in the middle, its last
+    (&[Clear(0x1c08, 1)], (2, 0x1c08, 0x77)),
+    (&[Clear(0x1c0a, 1)], (2, 0x1c0a, 0x77)),
+    (&[Clear(0x1c0b, 1)], (2, 0x1c0b, 0x77)),
+    (&[Clear(0xf000_5004, 1)], (2, 0xf000_5004, 0x77)),
+    (&[Clear(0xf000_5005, 1)], (2, 0xf000_5005, 0x77)),
+    (&[Clear(0xf000_5007, 1)], (2, 0xf000_5007, 0x77)),
+    // an entry is read whole, the lowest byte first, before anything of it counts
+    (
+        &[Set(0xf000_5004, b"\xfe"), Clear(0xf000_5005, 2)],
+        (2, 0xf000_5005, 0x77),
+    ),
+];
+
 #[test]
 fn pages_of_both_sizes_and_unread_bits(rt: HostRuntime) -> Result<(), Fail> {
     Tables::new(TwoLevel, 0x1000, &ENTRIES).lead(&rt, &PLACES)?;
@@ -64,19 +85,6 @@ fn pages_of_both_sizes_and_unread_bits(rt: HostRuntime) -> Result<(), Fail> {
 
 #[test]
 fn entries_that_break_the_walk(rt: HostRuntime) -> Result<(), Fail> {
-    let way = Tables::new(TwoLevel, 0x1000, &ENTRIES);
-    let entries = [(0x1c08, 0x12), (0xf000_5004, 0x11)];
-    way.break_at_entries(&rt, WAY, b"\xfe\xff\xff\xff", &entries)?;
-    // its first byte, one in the middle, its last
-    let bytes = [
-        0x1c08,
-        0x1c0a,
-        0x1c0b,
-        0xf000_5004,
-        0xf000_5005,
-        0xf000_5007,
-    ];
-    way.break_at_bytes(&rt, WAY, &bytes)?;
-    way.break_whole(&rt, WAY, 0xf000_5004, 0xf000_5005, 2)?;
+    Tables::new(TwoLevel, 0x1000, &ENTRIES).breaks(&rt, WAY, &BREAKS)?;
     Ok(())
 }
