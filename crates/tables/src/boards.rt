@@ -1,7 +1,7 @@
 use outsiders::Ramp;
 use overlays::Overlay;
 use paging::{Paging, Scheme, Translation};
-use spaces::{Fault, Refusal, Space};
+use spaces::{EditRefusal, Fault, Space};
 use std::process::Abort;
 
 // Memory that has the bytes laid on it and no others. Any other is absent with cause 0x77, two below a paging.
@@ -41,7 +41,7 @@ pub(crate) enum Change {
 }
 
 impl Change {
-    fn make<S: Space>(self, space: &mut S, depth: u8) -> Result<(), Refusal> {
+    fn make<S: Space>(self, space: &mut S, depth: u8) -> Result<(), EditRefusal> {
         match self {
             Change::Set(first, bytes) => space.set(depth, first, bytes),
             Change::Clear(first, count) => space.clear(depth, first, count),
@@ -53,7 +53,7 @@ impl Change {
 pub(crate) type Break = (&'static [Change], Missing);
 
 // An edit at a depth, what it answers, and what an address then has.
-pub(crate) type Step = (u8, Change, Result<(), Refusal>, Result<u8, Missing>);
+pub(crate) type Step = (u8, Change, Result<(), EditRefusal>, Result<u8, Missing>);
 
 // Each crate of tests has such a function of its own, as short as its tests want it.
 pub(crate) fn fault((depth, address, cause): Missing) -> Fault {
@@ -73,37 +73,37 @@ pub(crate) fn goes(place: Place) -> Result<Translation, Fault> {
 
 // An entry of a page table, which lies there with its lowest byte first.
 pub(crate) trait Entry: Copy {
-    fn lay(self, board: &mut Board, at: u64) -> Result<(), Refusal>;
+    fn lay(self, board: &mut Board, at: u64) -> Result<(), EditRefusal>;
 }
 
 impl Entry for u32 {
-    fn lay(self, board: &mut Board, at: u64) -> Result<(), Refusal> {
+    fn lay(self, board: &mut Board, at: u64) -> Result<(), EditRefusal> {
         board.set(0, at, &self.to_le_bytes())
     }
 }
 
 impl Entry for u64 {
-    fn lay(self, board: &mut Board, at: u64) -> Result<(), Refusal> {
+    fn lay(self, board: &mut Board, at: u64) -> Result<(), EditRefusal> {
         board.set(0, at, &self.to_le_bytes())
     }
 }
 
 // The bytes of an entry as they lie.
 impl<const N: usize> Entry for [u8; N] {
-    fn lay(self, board: &mut Board, at: u64) -> Result<(), Refusal> {
+    fn lay(self, board: &mut Board, at: u64) -> Result<(), EditRefusal> {
         board.set(0, at, &self)
     }
 }
 
 // Lays entries, each at its address.
-pub(crate) fn lay<E: Entry>(board: &mut Board, entries: &[(u64, E)]) -> Result<(), Refusal> {
+pub(crate) fn lay<E: Entry>(board: &mut Board, entries: &[(u64, E)]) -> Result<(), EditRefusal> {
     for (at, entry) in entries {
         entry.lay(board, *at)?;
     }
     Ok(())
 }
 
-pub(crate) fn laid<E: Entry>(entries: &[(u64, E)]) -> Result<Board, Refusal> {
+pub(crate) fn laid<E: Entry>(entries: &[(u64, E)]) -> Result<Board, EditRefusal> {
     let mut board = Overlay::new(Ramp { length: 0 });
     lay(&mut board, entries)?;
     Ok(board)
@@ -130,18 +130,23 @@ impl<'a, P: Scheme + Copy, E: Entry> Tables<'a, P, E> {
         Paging::new(self.scheme, self.cr3, board)
     }
 
-    pub(crate) fn paging(&self) -> Result<Paging<P, Board>, Refusal> {
+    pub(crate) fn paging(&self) -> Result<Paging<P, Board>, EditRefusal> {
         Ok(self.over(laid(self.entries)?))
     }
 
     // Each address goes where it should, or has the fault that it should.
-    pub(crate) fn lead(&self, rt: &impl Abort, cases: &[(u64, Place)]) -> Result<(), Refusal> {
+    pub(crate) fn lead(&self, rt: &impl Abort, cases: &[(u64, Place)]) -> Result<(), EditRefusal> {
         translate(rt, &self.paging()?, cases);
         Ok(())
     }
 
     // Edits of the board break the walk of an address, each time of the tables as they were.
-    pub(crate) fn breaks(&self, rt: &impl Abort, at: u64, cases: &[Break]) -> Result<(), Refusal> {
+    pub(crate) fn breaks(
+        &self,
+        rt: &impl Abort,
+        at: u64,
+        cases: &[Break],
+    ) -> Result<(), EditRefusal> {
         for (edits, missing) in cases {
             let mut paging = self.paging()?;
             for edit in *edits {

@@ -2,7 +2,7 @@ use crate::boards::{Board, GIB_1, KIB_4, MIB_2, Missing, fill, laid, lay};
 use outsiders::Ramp;
 use overlays::Overlay;
 use paging::{FourLevel, Paging};
-use spaces::{Refusal, Space};
+use spaces::{EditRefusal, Space};
 use std::test::Fail;
 
 // Pages of each size whose second one lies before the first in memory: of 4 KiB from address 0 on, at 0x9000 and 0x8000; of
@@ -43,7 +43,7 @@ const PATCHED: [(u64, usize, Option<Missing>, [u8; 8]); 3] = [
 ];
 
 // Of each size the last three bytes of the first page and the first two of the second. Nothing else is there.
-fn edges() -> Result<Paging<FourLevel, Board>, Refusal> {
+fn edges() -> Result<Paging<FourLevel, Board>, EditRefusal> {
     let mut board = laid(&TABLES)?;
     for (first, second) in [
         (0x9ffd, 0x8000),

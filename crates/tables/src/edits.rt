@@ -1,8 +1,8 @@
 use crate::boards::Change::{Clear, Set};
 use crate::boards::{Board, ENTRIES, KIB_4, Missing, Step, Tables, WAY, fault, follow, translate};
 use paging::{FourLevel, Paging};
-use spaces::Refusal::{NoOverlay, PastTheEnd};
-use spaces::{Refusal, Space, Watched};
+use spaces::EditRefusal::{NoOverlay, PastTheEnd};
+use spaces::{EditRefusal, Space, Watched};
 use std::test::Fail;
 
 // A byte that is patched right below, and what is then read at the way.
@@ -29,7 +29,7 @@ const PATCHES: [(u64, u8, Result<u8, Missing>); 14] = [
 ];
 
 // The way leads to the page at 0x9000, which has an `x` at 0x567; the page at 0xa000 has a `y` there.
-fn paging() -> Result<Paging<FourLevel, Board>, Refusal> {
+fn paging() -> Result<Paging<FourLevel, Board>, EditRefusal> {
     let tables = Tables::new(FourLevel, 0x1000, &ENTRIES);
     let mut paging = tables.paging()?;
     paging.set(1, 0x9567, b"x")?;

@@ -1,6 +1,6 @@
 use crate::boards::{ENTRIES, Entry, KIB_4, Place, Tables, WAY, goes};
 use paging::{FourLevel, Pae, Scheme, TwoLevel};
-use spaces::Refusal;
+use spaces::EditRefusal;
 use std::process::Abort;
 use std::test::Fail;
 
@@ -10,7 +10,7 @@ fn find<P: Scheme + Copy, E: Entry>(
     rt: &impl Abort,
     tables: Tables<'_, P, E>,
     places: &[(u64, u64)],
-) -> Result<(), Refusal> {
+) -> Result<(), EditRefusal> {
     let paging = tables.paging()?;
     for (at, place) in places {
         assert_eq!(rt; paging.translate(*at), goes(Ok((*place, KIB_4))));

@@ -2,8 +2,8 @@ use crate::boards::Change::{Clear, Set};
 use crate::boards::{Board, Entry, KIB_4, Step, WAY, follow, laid, lay, show, translate};
 use overlays::Overlay;
 use paging::{FourLevel, Pae, Paging, Scheme, TwoLevel};
-use spaces::Refusal::{self, NoOverlay};
-use spaces::Space;
+use spaces::EditRefusal::{self, NoOverlay};
+use spaces::{EditRefusal, Space};
 use std::test::Fail;
 
 // From the top: the guest's paging at depth 0, an overlay, the host's paging at 2, and the board, an overlay at 3 over
@@ -101,7 +101,7 @@ fn guest<P: Scheme + Drop, E: Entry>(
     entries: &[(u64, E)],
     place: u64,
     byte: u8,
-) -> Result<Guest<P>, Refusal> {
+) -> Result<Guest<P>, EditRefusal> {
     let mut board = laid(&HOST)?;
     lay(&mut board, entries)?;
     board.set(0, place, &[byte])?;
@@ -109,7 +109,7 @@ fn guest<P: Scheme + Drop, E: Entry>(
     Ok(Paging::new(scheme, cr3, Overlay::new(below)))
 }
 
-fn four_on_four() -> Result<Guest<FourLevel>, Refusal> {
+fn four_on_four() -> Result<Guest<FourLevel>, EditRefusal> {
     guest(FourLevel, 0x1000, &FOUR_LEVELS, 0x6567, b'x')
 }
 
