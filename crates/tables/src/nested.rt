@@ -2,7 +2,7 @@ use crate::boards::Change::{Clear, Set};
 use crate::boards::{Board, Entry, KIB_4, Step, WAY, follow, laid, lay, show, translate};
 use overlays::Overlay;
 use paging::{FourLevel, Pae, Paging, Scheme, TwoLevel};
-use spaces::EditRefusal::{self, NoOverlay};
+use spaces::EditRefusal::NoOverlay;
 use spaces::{EditRefusal, Space};
 use std::test::Fail;
 
