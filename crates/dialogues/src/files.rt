@@ -1,5 +1,5 @@
 use crate::piles::{counting, windowed};
-use crate::talk::{apply, begun, ended, replies};
+use crate::talk::{apply, replies, session_over, space_of};
 use numbers::Numbered;
 use patchfiles::{PatchFileRefusal, Stopped};
 use spaces::EditRefusal;
@@ -41,9 +41,9 @@ fn applies(rt: &impl Abort, file: &[u8], expected: Result<usize, Stopped>, bytes
         ("m1,1", "bb"),
     ];
     for owes in [false, true] {
-        let session = replies(rt, begun(windowed()), BEFORE);
+        let session = replies(rt, session_over(windowed()), BEFORE);
         let session = apply(rt, session, owes, file, expected);
-        let _ = ended(replies(rt, session, &after));
+        let _ = space_of(replies(rt, session, &after));
     }
 }
 
@@ -77,7 +77,7 @@ fn records_take_effect(rt: HostRuntime) {
 fn bytes_of_a_file(rt: HostRuntime) {
     let file = *b"\x08\x07\x06\x05\x04\x03\x02\x01\0\x01\0\0\x99\0\0\0\
         \xff\xff\xff\xff\xff\xff\xff\xff\0\x01\0\0\x98\0\0\0";
-    let session = apply(&rt, begun(counting(4)), false, &file, Ok(2));
+    let session = apply(&rt, session_over(counting(4)), false, &file, Ok(2));
     let session = replies(
         &rt,
         session,
@@ -87,7 +87,7 @@ fn bytes_of_a_file(rt: HostRuntime) {
             ("qaisle.fault", "none"),
         ],
     );
-    let _ = ended(session);
+    let _ = space_of(session);
 }
 
 #[test]
@@ -175,7 +175,7 @@ fn too_many_patches(rt: HostRuntime) {
     let stop = stopped(PatchFileRefusal::Edit(EditRefusal::TooManyPatches), 256);
     let session = apply(
         &rt,
-        begun(counting(0x200)),
+        session_over(counting(0x200)),
         false,
         full.as_flattened(),
         stop,
@@ -185,5 +185,5 @@ fn too_many_patches(rt: HostRuntime) {
     let other = [clear(0, 0), set(0x100, 0, 0x5b)];
     let session = apply(&rt, session, true, other.as_flattened(), Ok(2));
     let there = [("m0,2", "005a"), ("mfe,4", "5a5a5b01"), ("M0,1:00", "E27")];
-    let _ = ended(replies(&rt, session, &there));
+    let _ = space_of(replies(&rt, session, &there));
 }

@@ -1,5 +1,5 @@
 use crate::piles::counting;
-use crate::talk::{begun, ended, hear_other, hear_packet, replies};
+use crate::talk::{hear_other, hear_packet, replies, session_over, space_of};
 use packets::Item;
 use std::process::Abort;
 
@@ -18,9 +18,9 @@ const AFTER: &[(&str, &str)] = &[
 ];
 
 fn hears_no_packet(rt: &impl Abort, received: &[u8], expected: Item) {
-    let session = replies(rt, begun(counting(4)), BEFORE);
+    let session = replies(rt, session_over(counting(4)), BEFORE);
     let session = hear_other(rt, session, received, expected);
-    let _ = ended(replies(rt, session, AFTER));
+    let _ = space_of(replies(rt, session, AFTER));
 }
 
 const NO_PACKETS: &[(&[u8], Item)] = &[
@@ -65,8 +65,8 @@ const PACKETS: &[(&str, &str, usize)] = &[
 fn packets_heard(rt: HostRuntime) {
     for (received, payload, used) in PACKETS {
         let payload = payload.as_bytes();
-        let session = begun(counting(4));
-        let _ = ended(hear_packet(&rt, session, received.as_bytes(), payload));
+        let session = session_over(counting(4));
+        let _ = space_of(hear_packet(&rt, session, received.as_bytes(), payload));
         assert!(rt; Item::Packet { payload }.used() == *used, "{received}");
     }
 }

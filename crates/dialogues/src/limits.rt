@@ -1,5 +1,5 @@
 use crate::piles::counting;
-use crate::talk::{begun, dialogue, ended, replies, reply};
+use crate::talk::{dialogue, replies, reply, session_over, space_of};
 use packets::PAYLOAD;
 
 const DIGITS: [u8; 16] = *b"0123456789abcdef";
@@ -42,8 +42,13 @@ fn at_most_2048_addresses(rt: HostRuntime) {
     let text = counted_up();
     for (length, payload, bytes, fault) in READS {
         let told = &text[..2 * (*bytes).min(2_048)];
-        let session = reply(&rt, begun(counting(*length)), payload.as_bytes(), told);
-        let _ = ended(replies(&rt, session, &[("qaisle.fault", *fault)]));
+        let session = reply(
+            &rt,
+            session_over(counting(*length)),
+            payload.as_bytes(),
+            told,
+        );
+        let _ = space_of(replies(&rt, session, &[("qaisle.fault", *fault)]));
     }
 }
 
@@ -89,8 +94,8 @@ const FULL: &[(&str, &str)] = &[
 fn no_more_than_256_patches(rt: HostRuntime) {
     let mut payload = [0; PAYLOAD];
     let written = write(b"M0,100:", 256, &mut payload);
-    let session = reply(&rt, begun(counting(0x200)), written, b"OK");
-    let _ = ended(replies(&rt, session, FULL));
+    let session = reply(&rt, session_over(counting(0x200)), written, b"OK");
+    let _ = space_of(replies(&rt, session, FULL));
 }
 
 // Writes of more bytes than there can be patches, each with its place, the number of its bytes and the reply.
@@ -113,7 +118,7 @@ fn long_writes(rt: HostRuntime) {
     for (place, bytes, text) in LONG_WRITES {
         let mut payload = [0; PAYLOAD];
         let written = write(place.as_bytes(), *bytes, &mut payload);
-        let session = reply(&rt, begun(counting(0x200)), written, text.as_bytes());
-        let _ = ended(replies(&rt, session, AS_BEFORE));
+        let session = reply(&rt, session_over(counting(0x200)), written, text.as_bytes());
+        let _ = space_of(replies(&rt, session, AS_BEFORE));
     }
 }

@@ -1,5 +1,5 @@
 use crate::piles::windowed;
-use crate::talk::{begun, ended, replies, reply};
+use crate::talk::{replies, reply, session_over, space_of};
 use std::process::Abort;
 
 // A session that has patched address 4 at depth 2 and met a fault.
@@ -21,9 +21,9 @@ const AFTER: &[(&str, &str)] = &[
 // Each payload is refused with this reply, and then the session shows what it had.
 fn all_refused(rt: &impl Abort, payloads: &[&str], text: &str) {
     for payload in payloads {
-        let session = replies(rt, begun(windowed()), BEFORE);
+        let session = replies(rt, session_over(windowed()), BEFORE);
         let session = reply(rt, session, payload.as_bytes(), text.as_bytes());
-        let _ = ended(replies(rt, session, AFTER));
+        let _ = space_of(replies(rt, session, AFTER));
     }
 }
 
@@ -138,7 +138,7 @@ const DEPTHS: &[&str] = &[
 #[test]
 fn no_overlay(rt: HostRuntime) {
     for depth in DEPTHS {
-        let session = reply(&rt, begun(windowed()), depth.as_bytes(), b"OK");
-        let _ = ended(replies(&rt, session, NO_OVERLAY));
+        let session = reply(&rt, session_over(windowed()), depth.as_bytes(), b"OK");
+        let _ = space_of(replies(&rt, session, NO_OVERLAY));
     }
 }

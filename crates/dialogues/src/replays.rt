@@ -1,5 +1,5 @@
 use crate::piles::{counting, windowed};
-use crate::talk::{dialogue, framed, replayed};
+use crate::talk::{dialogue, framed, replay_over};
 use packets::{Item, REPLY};
 use patchfiles::{PatchFileRefusal, Stopped};
 use sessions::{Call, Outcome, Slot};
@@ -47,7 +47,7 @@ fn replays<S: Space + Drop>(
     let calls = &calls[..turns.len().min(MOST)];
     let mut slots = [empty(); MOST];
     let slots = &mut slots[..places.min(MOST)];
-    let (owed, space) = replayed(space, calls, slots);
+    let (owed, space) = replay_over(space, calls, slots);
     assert!(rt; owed == owes);
     for (slot, turn) in slots.iter().zip(turns) {
         came(rt, slot, turn);

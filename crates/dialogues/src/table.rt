@@ -1,5 +1,5 @@
 use crate::piles::{counting, windowed};
-use crate::talk::{begun, dialogue, ended, framed, reply};
+use crate::talk::{dialogue, framed, reply, session_over, space_of};
 
 // Frames as the protocol's manual and GDB's logs have them, by which the frames of these tests are judged.
 const FRAMES: &[(&str, &str)] = &[
@@ -71,7 +71,7 @@ const DEPTHS: &[(&str, &str)] = &[
 #[test]
 fn each_row(rt: HostRuntime) {
     dialogue(&rt, counting(16), EACH_ROW);
-    let _ = ended(reply(&rt, begun(counting(16)), b"g", &[b'x'; 328]));
+    let _ = space_of(reply(&rt, session_over(counting(16)), b"g", &[b'x'; 328]));
     dialogue(&rt, windowed(), DETACHED);
     dialogue(&rt, windowed(), DEPTHS);
 }

@@ -23,17 +23,17 @@ pub(crate) fn framed(text: &[u8]) -> [u8; REPLY] {
     buffer
 }
 
-pub(crate) fn begun<S: Space>(space: S) -> Waiting<S> {
+pub(crate) fn session_over<S: Space>(space: S) -> Waiting<S> {
     Waiting::new(space)
 }
 
 // The space of a session that is over.
-pub(crate) fn ended<S: Space>(session: Waiting<S>) -> S {
+pub(crate) fn space_of<S: Space>(session: Waiting<S>) -> S {
     session.close()
 }
 
 // A session that has heard a packet with this payload first, and owes a reply.
-fn owing<S: Space + Drop>(
+fn session_owing<S: Space + Drop>(
     rt: &impl Abort,
     session: Waiting<S>,
     received: &[u8],
@@ -45,14 +45,14 @@ fn owing<S: Space + Drop>(
             session
         }
         Heard::Other { session, .. } => {
-            let _ = ended(session);
+            let _ = space_of(session);
             panic!(rt; "it is no packet")
         }
     }
 }
 
 // A session that has answered, by a reply that nobody looks at.
-fn answered<S: Space>(session: Owing<S>, payload: &[u8]) -> Waiting<S> {
+fn after_reply<S: Space>(session: Owing<S>, payload: &[u8]) -> Waiting<S> {
     let mut buffer = [0; REPLY];
     let (session, _) = session.answer(payload, &mut buffer);
     session
@@ -65,7 +65,7 @@ pub(crate) fn hear_packet<S: Space + Drop>(
     received: &[u8],
     payload: &[u8],
 ) -> Waiting<S> {
-    answered(owing(rt, session, received, payload), payload)
+    after_reply(session_owing(rt, session, received, payload), payload)
 }
 
 // What is heard is no packet, but this item, and the session still waits.
@@ -77,7 +77,7 @@ pub(crate) fn hear_other<S: Space + Drop>(
 ) -> Waiting<S> {
     match session.hear(received) {
         Heard::Packet { session, .. } => {
-            let _ = ended(answered(session, b""));
+            let _ = space_of(after_reply(session, b""));
             panic!(rt; "it is a packet")
         }
         Heard::Other { session, item } => {
@@ -96,9 +96,9 @@ pub(crate) fn apply<S: Space + Drop>(
     expected: Result<usize, Stopped>,
 ) -> Waiting<S> {
     if owes {
-        let mut session = owing(rt, session, &framed(b"D"), b"D");
+        let mut session = session_owing(rt, session, &framed(b"D"), b"D");
         assert!(rt; session.apply(file) == expected);
-        return answered(session, b"D");
+        return after_reply(session, b"D");
     }
     let mut session = session;
     assert!(rt; session.apply(file) == expected);
@@ -112,7 +112,7 @@ pub(crate) fn reply<S: Space + Drop>(
     payload: &[u8],
     text: &[u8],
 ) -> Waiting<S> {
-    let session = owing(rt, session, &framed(payload), payload);
+    let session = session_owing(rt, session, &framed(payload), payload);
     let mut buffer = [b'.'; REPLY];
     let (session, count) = session.answer(payload, &mut buffer);
     let right = count == text.len() + 4 && buffer == framed(text);
@@ -135,17 +135,17 @@ pub(crate) fn replies<S: Space + Drop>(
 
 // A session of its own over a space, which it gives back.
 pub(crate) fn dialogue<S: Space + Drop>(rt: &impl Abort, space: S, turns: &[(&str, &str)]) -> S {
-    ended(replies(rt, begun(space), turns))
+    space_of(replies(rt, session_over(space), turns))
 }
 
 // Calls are made over a new session: whether it owes a reply at the end, and its space.
-pub(crate) fn replayed<'a, S: Space>(
+pub(crate) fn replay_over<'a, S: Space>(
     space: S,
     calls: &[Call<'a>],
     slots: &mut [Slot<'a>],
 ) -> (bool, S) {
     match replay(space, calls, slots) {
-        Stage::Waits(session) => (false, ended(session)),
-        Stage::Owes(session) => (true, ended(answered(session, b""))),
+        Stage::Waits(session) => (false, space_of(session)),
+        Stage::Owes(session) => (true, space_of(after_reply(session, b""))),
     }
 }
