@@ -84,17 +84,20 @@ def other_variants(line, enums):
 
 
 def imported_variants(lines, enums):
-    """The variants that a file of definitions imports, by the enum of each."""
-    for m in re.finditer(r"^use \S+\.(\w+)\.TheVariants\.\{([^}]*)\}", "\n".join(lines), re.M):
+    """The variants that a file of definitions imports, by the enum of each, as they are written there."""
+    text = "\n".join(lines)
+    for m in re.finditer(r"^use \S+\.(\w+)\.TheVariants\.\{([^}]*)\}", text, re.M):
         variants = enums.get(m.group(1), {})
         yield {x: variants[x] for x in m.group(2).split(", ") if x in variants}
+    for m in re.finditer(r"^use \S+\.(\w+)\.TheVariants as (\w+)", text, re.M):
+        yield {f"{m.group(2)}.{x}": data for x, data in enums.get(m.group(1), {}).items()}
 
 
 def other_constructors(line, imported):
     for variants in imported:
         for one in variants:
             other = next_of(variants, one)
-            for m in re.finditer(rf"\b{one}\b", line) if other else []:
+            for m in re.finditer(rf"(?<![\w.]){re.escape(one)}\b", line) if other else []:
                 yield line[: m.start()] + other + line[m.end():]
 
 

@@ -10,10 +10,10 @@ use paging::{FourLevel, Paging};
 use spaces::Space;
 
 // The layers of a cart on any bottom, from the top: an overlay, four-level paging, an overlay.
-pub type Layered<B> = Overlay<Paging<FourLevel, Overlay<B>>>;
+pub type CartOn<B> = Overlay<Paging<FourLevel, Overlay<B>>>;
 
 // A stopped cart: its layers on the image of its dump.
-pub type Cart<'t, 'f> = Layered<Image<'t, 'f, LimeRange>>;
+pub type Cart<'t, 'f> = CartOn<Image<'t, 'f, LimeRange>>;
 
 // How many ranges a dump may have.
 pub const RANGES: usize = 64;
@@ -43,8 +43,8 @@ fn load_image<'t, 'f>(
 }
 
 // The layers of a cart on a bottom, with its CR3.
-pub fn layer<B: Space>(bottom: B, cr3: u64) -> Layered<B>
-    ensures { ⟦<Layered<B> as Space>⟧.meaning result ≡ layered cr3 (B.Space.meaning bottom) }
+pub fn layer<B: Space>(bottom: B, cr3: u64) -> CartOn<B>
+    ensures { ⟦<CartOn<B> as Space>⟧.meaning result ≡ layered cr3 (B.Space.meaning bottom) }
 {
     Overlay::new(Paging::new(FourLevel, cr3, Overlay::new(bottom)))
 }

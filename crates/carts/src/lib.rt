@@ -5,6 +5,6 @@ mod cart;
 mod laws;
 mod root;
 
-pub use cart::{Cart, DUMP, Layered, RANGES, layer, load_cart};
+pub use cart::{Cart, CartOn, DUMP, RANGES, layer, load_cart};
 pub use laws::worked_examples;
 pub use root::{ROOT, cr3_in};

@@ -17,7 +17,7 @@ fn empty() -> Slot<'static> {
 // The most calls of a replay, and the most places.
 const MOST: usize = 12;
 
-// A call, what comes of it, and the text of the reply where it is answered.
+// A call, its outcome, and the text of the reply where it is answered.
 type Turn<'a> = (Call<'a>, Outcome<'a>, &'a str);
 
 // A place after a call: the buffer is as it was but for a reply.

@@ -1,4 +1,4 @@
-// Sessions as these tests hold them: no other file of these tests makes a call of `sessions`.
+// Sessions as these tests hold them: no other file of these tests calls into `sessions`.
 
 use packets::{Item, PAYLOAD, REPLY};
 use patchfiles::Stopped;
@@ -87,7 +87,7 @@ pub(crate) fn hear_other<S: Space + Drop>(
     }
 }
 
-// A patch file is applied, of which this comes, while the session waits or while it owes a reply.
+// A patch file is applied with this outcome, while the session waits or while it owes a reply.
 pub(crate) fn apply<S: Space + Drop>(
     rt: &impl Abort,
     session: Waiting<S>,

@@ -47,7 +47,8 @@ module _ {E : Type 0} (bounds : E → Bounds) where
     pub answer : r ≡ next_extent header (room t) (held t)
     pub table : MatchResult r (λ e. Pushed t u e (Ok tt)) (λ _. u ≡ t)
 
-  -- from what stands at a place on, behind the extents before it: `onward` is the load with one extent more
+  -- From what stands at a place on, behind the extents before it: `onward` is the load with one extent more. What is refused is
+  -- the refusal of `addition_refusal`, by the room that is left.
   abbrev pub load_by : NextHeader E → (place : ℕ) → List E → (E → (behind : ℕ) → Load E) → Load E
   load_by no_header place before onward = record { extents = before; refused = None }
   load_by (refused_header refusal) place before onward = stopped before refusal place

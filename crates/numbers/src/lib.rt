@@ -1,4 +1,4 @@
-// The numbers by which causes and refusals are told, and how they are written. Every crate that refuses something stands on it.
+// That causes and refusals have numbers, and how these are written.
 #![tactic(auto)]
 
 mod number;

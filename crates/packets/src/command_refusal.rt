@@ -6,7 +6,7 @@ use numbers::Numbered;
 use std::error::Error;
 use std::fmt;
 
-// Why a payload asks for nothing, each with its number: the smallest that applies.
+// Why a payload is refused by its form, each with its number: the smallest that applies.
 #[derive(Clone, Copy, Debug, PartialEq, Eq)]
 pub enum CommandRefusal {
     // It does not have the form of its name.

@@ -8,7 +8,7 @@ use Rattle.spaces.specs.Piles.{Pile}
 use Rattle.spaces.specs.Edits.{unless, edit_at}
 use Rattle.patchfiles.specs.declared.refusal.PatchFileRefusal.TheVariants as why
 use Rattle.patchfiles.specs.declared.stopped.Stopped.{Stopped}
-use Rattle.patchfiles.specs.Runs.{Mark, refused, marked, made, Makes}
+use Rattle.patchfiles.specs.Runs.{Mark, refused, marked, edit_answer, Makes}
 use Rattle.patchfiles.specs.Records.{mark_of}
 use Rattle.patchfiles.specs.Files.{marks_of, Applies}
 use Rattle.patchfiles.specs.Ends.{record_at, WellFormed, Leads, here, next, Ends, bad_length, bad_record, stops, goes_through, EveryPatchFileEndsInOneOfFourWays}
@@ -18,11 +18,11 @@ use Rattle.patchfiles.proofs.Answering.{bad_length_applies, fault_applies, run_a
 
 -- making a mark: it is accepted, or refused
 accepts : (o : Option Mark) (q : Pile) (m : Mark) → o ≡ Some m → refused q m ≡ None → Makes o q (marked q m) (Ok tt)
-accepts o q m e a = rw e (sym (ap made a), refl)
+accepts o q m e a = rw e (sym (ap edit_answer a), refl)
 
 refuses : (o : Option Mark) (q : Pile) (m : Mark) (refusal : EditRefusal) → o ≡ Some m → refused q m ≡ Some refusal → Makes o q q (Err (why.Edit refusal))
 refuses o q m refusal e a = rw e (
-  sym (ap made a),
+  sym (ap edit_answer a),
   sym (ap (λ (w : Option EditRefusal). record { layers = unless w q.layers (edit_at q.layers m.depth m.edit); base = q.base }) a),
 )
 

@@ -8,7 +8,7 @@ use Rattle.patchfiles.specs.declared.stopped.Stopped.{Stopped}
 
 -- Edits of a pile, one behind the other.
 
--- an edit and the depth at which it is made
+-- an edit and the depth at which it is edit_answer
 pub record Mark : Type 0 where
   pub depth : ℕ
   pub edit : Edit
@@ -21,14 +21,14 @@ abbrev pub marked : Pile → Mark → Pile
 marked p m = edited p m.depth m.edit
 
 -- what making a mark answers
-abbrev pub made : Option EditRefusal → Result (Unit {0}) PatchFileRefusal
-made None = Ok tt
-made (Some refusal) = Err (why.Edit refusal)
+abbrev pub edit_answer : Option EditRefusal → Result (Unit {0}) PatchFileRefusal
+edit_answer None = Ok tt
+edit_answer (Some refusal) = Err (why.Edit refusal)
 
 -- what making a mark answers and leaves; a malformed record has none
 abbrev pub Makes : Option Mark → Pile → Pile → Result (Unit {0}) PatchFileRefusal → Type 0
 Makes None old new r = (r ≡ Err why.BadRecord) × (new ≡ old)
-Makes (Some m) old new r = (r ≡ made (refused old m)) × (new ≡ marked old m)
+Makes (Some m) old new r = (r ≡ edit_answer (refused old m)) × (new ≡ marked old m)
 
 -- the pile after marks in order, of which the first refused one ends all
 abbrev pub left_by : List Mark → Pile → Pile

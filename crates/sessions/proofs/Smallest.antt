@@ -21,7 +21,7 @@ use Rattle.sessions.specs.Refusals.{payload_refusal_number}
 use Rattle.sessions.specs.States.{State}
 use Rattle.sessions.specs.Answers.{done, told_by}
 use Rattle.sessions.specs.Texts.{end_of}
-use Rattle.sessions.specs.Smallest.{Applies, read_form, write_form, depth_form, read_none, write_none, write_digits, read_end, write_end, no_overlay, too_many, IsSmallest, NothingApplies, RefusedByTheSmallest}
+use Rattle.sessions.specs.Smallest.{Applies, read_form, write_form, depth_form, read_none, write_none, write_digits, read_end, write_end, edit_end, no_overlay, too_many, IsSmallest, NothingApplies, EveryRefusalHasTheSmallestNumber}
 use Rattle.sessions.proofs.Ending.{ends}
 
 -- A payload is refused with the smallest number that applies.
@@ -84,6 +84,10 @@ module _ (s : State) where
     | inl w ↦ by_form _ w.0 q w.1 (command_first w.0)
     | inr a ↦ absurd (omega (arith, a.1))
   ]
+  at_most payload q (edit_end text first count digits b h) = elim (write_by text first count digits b) [
+    | inl w ↦ by_form _ w.0 q w.1 (command_first w.0)
+    | inr a ↦ absurd (omega (arith, ends (code "M" ∷ text) (write first digits) a.0))
+  ]
   at_most payload q (no_overlay text first count digits b e) = by_pile text first count digits q b (omega arith) (rw e (grind (arith, nat_tests)))
   at_most payload q (too_many text first count digits ps b e h) = by_pile text first count digits q b (omega arith) (rw e (grind (arith, nat_tests)))
 
@@ -140,5 +144,5 @@ module _ (s : State) where
       step (Ok a) e f = asks_judged payload a f e (ends payload a f)
       step (Err r) e f = refused payload (Command r) (rw e refl) (applied payload r f)
 
-pub smallest : RefusedByTheSmallest
-smallest = record { answered = payload_judged; one_end = refl }
+pub smallest : EveryRefusalHasTheSmallestNumber
+smallest = record { smallest = payload_judged; past_the_end = refl }

@@ -18,7 +18,8 @@ use Rattle.sessions.specs.Answers.{told_by}
 
 -- A payload is refused with the smallest number that applies, by its form or by the pile.
 
--- a refusal applies to a payload, by its own rule and whatever else applies
+-- A refusal applies to a payload, by its own rule and whatever else applies. (`Wrong` in `packets` has the rules of a command
+-- too; there each leaves out those with a smaller number.)
 pub data Applies (s : State) : List ℕ → PayloadRefusal → Type 0 where
   read_form : (text : List ℕ) → ((first count : ℕ) → Span text first count → ⊥) → Applies s (code "m" ∷ text) (Command BadForm)
   write_form : (text : List ℕ) → ((first count : ℕ) (digits : List ℕ) → Bytes text first count digits → ⊥) → Applies s (code "M" ∷ text) (Command BadForm)
@@ -30,6 +31,8 @@ pub data Applies (s : State) : List ℕ → PayloadRefusal → Type 0 where
   read_end : (text : List ℕ) (first count : ℕ) → Span text first count → 2 ^ 64 < first + count → Applies s (code "m" ∷ text) (Command PastTheEnd)
   write_end : (text : List ℕ) (first count : ℕ) (digits : List ℕ) → Bytes text first count digits → 2 ^ 64 < first + count
       → Applies s (code "M" ∷ text) (Command PastTheEnd)
+  edit_end : (text : List ℕ) (first count : ℕ) (digits : List ℕ) → Bytes text first count digits → 2 ^ 64 < first + length (paired digits)
+      → Applies s (code "M" ∷ text) (Edit edits.PastTheEnd)
   no_overlay : (text : List ℕ) (first count : ℕ) (digits : List ℕ) → Bytes text first count digits → patches_at s.pile.layers s.depth ≡ None
       → Applies s (code "M" ∷ text) (Edit NoOverlay)
   too_many : (text : List ℕ) (first count : ℕ) (digits : List ℕ) (ps : Patches) → Bytes text first count digits → patches_at s.pile.layers s.depth ≡ Some ps
@@ -43,7 +46,7 @@ pub record IsSmallest (s : State) (payload : List ℕ) (refusal : PayloadRefusal
 abbrev pub NothingApplies : State → List ℕ → Type 0
 NothingApplies s payload = (refusal : PayloadRefusal) → Applies s payload refusal → ⊥
 
-pub record RefusedByTheSmallest : Type 0 where
-  pub answered : (s : State) (payload : List ℕ) → MatchResult (told_by s (asked payload)) (λ _. NothingApplies s payload) (IsSmallest s payload)
-  -- a number has one meaning
-  pub one_end : command_refusal_number PastTheEnd ≡ edit_refusal_number edits.PastTheEnd
+pub record EveryRefusalHasTheSmallestNumber : Type 0 where
+  pub smallest : (s : State) (payload : List ℕ) → MatchResult (told_by s (asked payload)) (λ _. NothingApplies s payload) (IsSmallest s payload)
+  -- past the end has one number, of a command and of an edit
+  pub past_the_end : command_refusal_number PastTheEnd ≡ edit_refusal_number edits.PastTheEnd

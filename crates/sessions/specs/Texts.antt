@@ -13,17 +13,17 @@ pub record Begins (words buffer : List ℕ) (n : ℕ) : Type 0 where
   pub front : take n buffer ≡ words
 
 -- it begins with what is told, or that is a refusal
-abbrev pub BeginsOr : Result (List ℕ) PayloadRefusal → List ℕ → Result ℕ PayloadRefusal → Type 0
-BeginsOr told buffer r = MatchResult r (λ n. IsOk told × Begins (text_of told) buffer n) (λ refusal. told ≡ Err refusal)
+abbrev pub BeginsUnlessRefused : Result (List ℕ) PayloadRefusal → List ℕ → Result ℕ PayloadRefusal → Type 0
+BeginsUnlessRefused told buffer r = MatchResult r (λ n. IsOk told × Begins (text_of told) buffer n) (λ refusal. told ≡ Err refusal)
 
 -- what a command asks for is done: the buffer begins with the reply, or the command is refused, and the session is as after it
 pub record CarriesOut (s : State) (asked : Asked) (t : State) (buffer : List ℕ) (r : Result ℕ PayloadRefusal) : Type 0 where
-  pub text : BeginsOr (told s asked) buffer r
+  pub text : BeginsUnlessRefused (told s asked) buffer r
   pub session : t ≡ after_asked s (Ok asked)
 
 -- the same of a payload
 pub record Replies (s : State) (payload : List ℕ) (t : State) (buffer : List ℕ) (r : Result ℕ PayloadRefusal) : Type 0 where
-  pub text : BeginsOr (told_by s (asked payload)) buffer r
+  pub text : BeginsUnlessRefused (told_by s (asked payload)) buffer r
   pub session : t ≡ after s payload
 
 -- the address behind the last one that a command is for

@@ -1,7 +1,7 @@
-ghost use Rattle.sessions.specs.Smallest.{RefusedByTheSmallest};
+ghost use Rattle.sessions.specs.Smallest.{EveryRefusalHasTheSmallestNumber};
 ghost use Rattle.sessions.specs.Laws.{WhatIsKeptLeavesNothingOpen, EveryLastFaultArose, EveryWriteOffTheTrailKeepsTheRead, NothingRefusedTakesEffect};
 
-// What follows from what a session keeps, and from nothing else. There is nothing to run: each contract is a theorem.
+// Theorems about sessions. There is nothing to run. The first four follow from what a session keeps, and from nothing else.
 
 // A history leads to one session, and leaves one frame to each accepted read and to each question for the last fault.
 pub fn what_is_kept_leaves_nothing_open()
@@ -23,7 +23,8 @@ pub fn nothing_refused_takes_effect()
     ensures { NothingRefusedTakesEffect }
 {}
 
-// A payload is refused with the smallest number that applies, by its form or by the pile; and where none applies it is done.
-pub fn every_payload_is_refused_by_the_smallest()
-    ensures { RefusedByTheSmallest }
+// A payload is refused with the smallest number that applies, by its form or by the pile, and where none applies it is not
+// refused.
+pub fn every_refusal_has_the_smallest_number()
+    ensures { EveryRefusalHasTheSmallestNumber }
 {}

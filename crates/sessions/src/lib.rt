@@ -16,7 +16,7 @@ pub use answering::REGISTERS;
 pub use call::{Call, Outcome, Slot};
 pub use heard::Heard;
 pub use laws::{
-    every_last_fault_arose, every_payload_is_refused_by_the_smallest,
+    every_last_fault_arose, every_refusal_has_the_smallest_number,
     every_write_off_the_trail_keeps_the_read, nothing_refused_takes_effect,
     what_is_kept_leaves_nothing_open,
 };

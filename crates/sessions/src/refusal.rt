@@ -12,9 +12,9 @@ use std::fmt;
 // Why a payload is refused, with the number that is replied behind `E`.
 #[derive(Clone, Copy, Debug, PartialEq, Eq)]
 pub enum PayloadRefusal {
-    // It asks for nothing.
+    // By its form.
     Command(CommandRefusal),
-    // The edit that it asks for is refused.
+    // By the pile: the edit that it asks for is refused.
     Edit(EditRefusal),
 }
 

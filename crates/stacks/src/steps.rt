@@ -12,7 +12,7 @@ pub(crate) enum Step<'a> {
     Byte(u64, Result<u8, Fault>),
     // Reads of as many addresses, one by one.
     Bytes(u64, &'a [u8]),
-    // A fill of as many dots: what they are afterwards, how many bytes there are, and the fault.
+    // A fill of a buffer of dots, as long as what it is afterwards; how many bytes there are, and the fault.
     Fill(u64, &'a [u8], usize, Option<Fault>),
     // Where the fault of an address arose, or its byte.
     Located(u64, Result<u8, Fault>),

@@ -27,11 +27,11 @@ pub(crate) const ENTRIES: [(u64, u64); 4] = [
     (0x4020, 0x9003),
 ];
 
-// A fault's depth, address and cause. The cases of a test are constants, which call no function.
-pub(crate) type Missing = (u8, u64, u8);
+// A fault's depth, address and cause: a constant may not call `fault`, so cases have the three parts.
+pub(crate) type FaultParts = (u8, u64, u8);
 
 // A final address and the size of its page, or what is missing on the way.
-pub(crate) type Place = Result<(u64, u64), Missing>;
+pub(crate) type Place = Result<(u64, u64), FaultParts>;
 
 // An edit: the first address, and the bytes or how many addresses.
 #[derive(Clone, Copy)]
@@ -50,13 +50,13 @@ impl Change {
 }
 
 // Edits of a board, and what is then missing on a way.
-pub(crate) type Break = (&'static [Change], Missing);
+pub(crate) type Break = (&'static [Change], FaultParts);
 
 // An edit at a depth, what it answers, and what an address then has.
-pub(crate) type Step = (u8, Change, Result<(), EditRefusal>, Result<u8, Missing>);
+pub(crate) type Step = (u8, Change, Result<(), EditRefusal>, Result<u8, FaultParts>);
 
 // Each crate of tests has such a function of its own, as short as its tests want it.
-pub(crate) fn fault((depth, address, cause): Missing) -> Fault {
+pub(crate) fn fault((depth, address, cause): FaultParts) -> Fault {
     Fault {
         depth,
         address,
@@ -140,7 +140,7 @@ impl<'a, P: Scheme + Copy, E: Entry> Tables<'a, P, E> {
         Ok(())
     }
 
-    // Edits of the board break the walk of an address, each time of the tables as they were.
+    // Edits of the board break the walk of an address, each time starting from the tables as they were.
     pub(crate) fn breaks(
         &self,
         rt: &impl Abort,
@@ -178,7 +178,7 @@ pub(crate) fn follow<S: Space>(rt: &impl Abort, space: &mut S, at: u64, steps: &
 }
 
 // Each address has its byte, or the fault that it should.
-pub(crate) fn show<S: Space>(rt: &impl Abort, space: &S, cases: &[(u64, Result<u8, Missing>)]) {
+pub(crate) fn show<S: Space>(rt: &impl Abort, space: &S, cases: &[(u64, Result<u8, FaultParts>)]) {
     for (at, byte) in cases {
         assert_eq!(rt; space.byte(*at), byte.map_err(fault));
     }
@@ -189,7 +189,7 @@ pub(crate) fn show<S: Space>(rt: &impl Abort, space: &S, cases: &[(u64, Result<u
 pub(crate) fn fill<S: Space>(
     rt: &impl Abort,
     space: &S,
-    cases: &[(u64, usize, Option<Missing>, [u8; 8])],
+    cases: &[(u64, usize, Option<FaultParts>, [u8; 8])],
 ) {
     for (first, count, missing, bytes) in cases {
         let mut out = *b"........";

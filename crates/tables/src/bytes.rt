@@ -1,4 +1,4 @@
-use crate::boards::{Missing, Tables, fill, show};
+use crate::boards::{FaultParts, Tables, fill, show};
 use paging::TwoLevel;
 use spaces::Space;
 use std::test::Fail;
@@ -13,7 +13,7 @@ const TWO_PAGES: [(u64, u32); 5] = [
     (0x1ffc, 0xc0_0083),
 ];
 
-const BYTES: [(u64, Result<u8, Missing>); 9] = [
+const BYTES: [(u64, Result<u8, FaultParts>); 9] = [
     (0xfff, Ok(b'c')),
     (0x1000, Ok(b'd')),
     (0xffff_ffff, Ok(b'!')),
@@ -28,7 +28,7 @@ const BYTES: [(u64, Result<u8, Missing>); 9] = [
 ];
 
 // Over the edge of a page the next one goes on, and what a fault leaves of the buffer is as it was.
-const FILLS: [(u64, usize, Option<Missing>, [u8; 8]); 4] = [
+const FILLS: [(u64, usize, Option<FaultParts>, [u8; 8]); 4] = [
     (0xffd, 5, Some((2, 0x8002, 0x77)), *b"abcde..."),
     (0x1ffe, 2, Some((0, 0x2000, 0x11)), *b"yz......"),
     (0x2000, 0, Some((0, 0x2000, 0x11)), *b"........"),

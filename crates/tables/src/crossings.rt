@@ -1,4 +1,4 @@
-use crate::boards::{Board, GIB_1, KIB_4, MIB_2, Missing, fill, laid, lay};
+use crate::boards::{Board, FaultParts, GIB_1, KIB_4, MIB_2, fill, laid, lay};
 use outsiders::Ramp;
 use overlays::Overlay;
 use paging::{FourLevel, Paging};
@@ -21,14 +21,14 @@ const TABLES: [(u64, u64); 10] = [
 ];
 
 // Over the edge of each size.
-const EDGES: [(u64, usize, Option<Missing>, [u8; 8]); 3] = [
+const EDGES: [(u64, usize, Option<FaultParts>, [u8; 8]); 3] = [
     (KIB_4 - 3, 5, Some((2, 0x8002, 0x77)), *b"abcde..."),
     (2 * MIB_2 - 3, 5, Some((2, 0x60_0002, 0x77)), *b"abcde..."),
     (2 * GIB_1 - 3, 5, Some((2, 0x8000_0002, 0x77)), *b"abcde..."),
 ];
 
 // A fault in the middle of a page ends the read, whatever lies behind it.
-const MIDDLES: [(u64, usize, Option<Missing>, [u8; 8]); 4] = [
+const MIDDLES: [(u64, usize, Option<FaultParts>, [u8; 8]); 4] = [
     (0xffc, 0, Some((2, 0x9ffc, 0x77)), *b"........"),
     (0xffe, 4, Some((2, 0x8002, 0x77)), *b"bcde...."),
     (0x1003, 1, Some((2, 0x8004, 0x77)), *b"g......."),
@@ -36,7 +36,7 @@ const MIDDLES: [(u64, usize, Option<Missing>, [u8; 8]); 4] = [
 ];
 
 // Patches lie over the edge of two pages, over a byte that is absent, and where there is no page.
-const PATCHED: [(u64, usize, Option<Missing>, [u8; 8]); 3] = [
+const PATCHED: [(u64, usize, Option<FaultParts>, [u8; 8]); 3] = [
     (0xffd, 6, Some((3, 0x8003, 0x77)), *b"aWXYeZ.."),
     (0x1ffe, 4, Some((1, 0x2002, 0x11)), *b"yzPQ...."),
     (0x1001, 2, Some((3, 0x8003, 0x77)), *b"eZ......"),

@@ -1,12 +1,14 @@
 use crate::boards::Change::{Clear, Set};
-use crate::boards::{Board, ENTRIES, KIB_4, Missing, Step, Tables, WAY, fault, follow, translate};
+use crate::boards::{
+    Board, ENTRIES, FaultParts, KIB_4, Step, Tables, WAY, fault, follow, translate,
+};
 use paging::{FourLevel, Paging};
 use spaces::EditRefusal::{NoOverlay, PastTheEnd};
 use spaces::{EditRefusal, Space, Watched};
 use std::test::Fail;
 
 // A byte that is patched right below, and what is then read at the way.
-const PATCHES: [(u64, u8, Result<u8, Missing>); 14] = [
+const PATCHES: [(u64, u8, Result<u8, FaultParts>); 14] = [
     // beside the way: the bytes before and after an entry and the final byte
     (0x1007, 0xff, Ok(b'x')),
     (0x1010, 0xff, Ok(b'x')),

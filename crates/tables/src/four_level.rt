@@ -1,6 +1,6 @@
 use crate::boards::Change::{Clear, Set};
 use crate::boards::{
-    Break, ENTRIES, GIB_1, KIB_4, MIB_2, Missing, Place, Tables, WAY, fill, show, translate,
+    Break, ENTRIES, FaultParts, GIB_1, KIB_4, MIB_2, Place, Tables, WAY, fill, show, translate,
 };
 use paging::FourLevel;
 use spaces::Space;
@@ -99,7 +99,7 @@ const OWN_PLACES: [(u64, Place); 3] = [
     (0x1000, Err((2, 0x1008, 0x77))),
 ];
 
-const OWN_BYTES: [(u64, Result<u8, Missing>); 8] = [
+const OWN_BYTES: [(u64, Result<u8, FaultParts>); 8] = [
     (0, Ok(0x03)),
     (1, Ok(0x10)),
     (7, Ok(0x00)),

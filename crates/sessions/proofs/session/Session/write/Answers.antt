@@ -2,7 +2,7 @@ use Rattle.std.proofs.Common.{◌≡◌, Some, None, Ok, Err, refl, subst, sym, 
 use Rattle.sessions.specs.declared.refusal.PayloadRefusal.TheVariants.{Edit}
 use Rattle.sessions.specs.States.{State}
 use Rattle.sessions.specs.Sessions.{state}
-use Rattle.sessions.specs.Texts.{BeginsOr}
+use Rattle.sessions.specs.Texts.{BeginsUnlessRefused}
 use Rattle.sessions.proofs.Writing.{placed, written_told, written_after}
 use Rattle.sessions.proofs.session.Session.write.Goals as goal
 
@@ -22,6 +22,6 @@ returns g c =
     let few = placed _ _ _ _ c.bytes-count.ensures in
     let told = written_told s c.args.first c.args.pairs.now _ _ _ c.requires few c.set.ensures None c.in_ok-set.was in
     record {
-      text = subst (λ w. BeginsOr w c.say.new.text (Ok c.say.result)) (sym told) (refl, c.say.ensures);
+      text = subst (λ w. BeginsUnlessRefused w c.say.new.text (Ok c.say.result)) (sym told) (refl, c.say.ensures);
       session = written_after s c.args.first c.args.pairs.now _ _ _ c.requires few c.set.ensures;
     }
