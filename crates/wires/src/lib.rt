@@ -6,8 +6,8 @@ mod commands;
 #[cfg(test)]
 mod frames;
 #[cfg(test)]
-mod items;
+mod hexadecimal;
 #[cfg(test)]
-mod numbers;
+mod items;
 #[cfg(test)]
 mod sessions;
