@@ -1,23 +1,45 @@
 #!/usr/bin/env bash
-# Shows that the check refuses the two misuses of a session by its types: hearing again while a reply is owed, and letting an owed
-# reply fall. Each is written into a copy of the crate, and the check has to name it.
+# Shows that the check refuses the misuses of a session by its types. A program's are written into a copy of the crate `replays`,
+# which calls sessions as any program does; those of the two states themselves into a copy of `sessions`. The check has to name each.
 set -euo pipefail
 copy=$(mktemp -d)
 trap 'rm -rf "$copy"' EXIT
 cd "$(dirname "$0")/.."
 cp -r crates.txt crates "$copy"
-cd "$copy/crates/sessions"
 
-refused() {
-    printf '\n%s\n' "$2" >>src/replaying.rt
-    if rt check >out.log 2>&1 || ! grep -q "error\[$1\]" out.log; then
-        echo "not refused: $1"
+# named CRATE ERROR WHAT
+named() {
+    if (cd "$copy/crates/$1" && rt check) >"$copy/out.log" 2>&1 || ! grep -q "error\[$2\]" "$copy/out.log"; then
+        echo "not refused: $3"
         exit 1
     fi
-    echo "refused: $(grep -m1 "error\[$1\]" out.log)"
-    head -n -2 src/replaying.rt >kept.rt
-    mv kept.rt src/replaying.rt
+    echo "refused: $3: $(grep -m1 "error\[$2\]" "$copy/out.log")"
 }
 
-refused unknown-method "fn hear_again<S: Space>(owing: Owing<S>, received: &[u8]) -> Heard<'_, S> { owing.hear(received) }"
-refused linear-value-let-go "fn let_fall<S: Space>(owing: Owing<S>) {}"
+# misuse ERROR WHAT CODE
+misuse() {
+    cp crates/replays/src/replaying.rt "$copy/crates/replays/src"
+    printf '\n%s\n' "$3" >>"$copy/crates/replays/src/replaying.rt"
+    named replays "$1" "$2"
+}
+
+# droppable STATE
+droppable() {
+    sed "s/^pub struct $1 {/#[derive(Drop)]\n&/" crates/sessions/src/talk.rt >"$copy/crates/sessions/src/talk.rt"
+    named sessions invalid-derive "$1 made droppable"
+}
+
+misuse unknown-method 'hearing while a reply is owed' \
+    "fn hear_again(owed: Owing, received: &[u8]) -> Heard<'_> { owed.hear(received) }"
+misuse linear-value-let-go 'letting an owed reply fall' \
+    'fn let_fall(owed: Owing) {}'
+misuse borrow-e0382 'answering twice' \
+    'fn answer_twice<S: Space>(server: &mut PileServer<S>, owed: Owing, reply: &mut [u8; packets::REPLY]) -> (Waiting, Waiting) {
+    (server.answer(owed, b"", reply).0, server.answer(owed, b"", reply).0)
+}'
+misuse private-field 'owing a reply without hearing' \
+    'fn owe(talk: Waiting) -> Owing { let Waiting { talk } = talk; Owing { talk } }'
+misuse mismatched-types 'closing while a reply is owed' \
+    'fn close_early<S: Space>(server: PileServer<S>, owed: Owing) -> S { server.close(owed) }'
+droppable Waiting
+droppable Owing

@@ -3,6 +3,8 @@
 #![tactic(auto)]
 
 #[cfg(test)]
+mod calls;
+#[cfg(test)]
 mod cart;
 #[cfg(test)]
 mod dumps;
@@ -20,8 +22,6 @@ mod limits;
 mod piles;
 #[cfg(test)]
 mod refusals;
-#[cfg(test)]
-mod replays;
 #[cfg(test)]
 mod table;
 #[cfg(test)]

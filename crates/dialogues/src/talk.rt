@@ -2,7 +2,8 @@
 
 use packets::{Item, PAYLOAD, REPLY};
 use patchfiles::Stopped;
-use sessions::{Call, Heard, Owing, Slot, Stage, Waiting, replay};
+use replays::{Call, Slot, Stage, replay};
+use sessions::{Heard, Owing, PileServer, Waiting, open};
 use spaces::Space;
 use std::process::Abort;
 
@@ -23,66 +24,78 @@ pub(crate) fn framed(text: &[u8]) -> [u8; REPLY] {
     buffer
 }
 
-pub(crate) fn session_over<S: Space>(space: S) -> Waiting<S> {
-    Waiting::new(space)
+// A session whose talk waits.
+pub(crate) struct Session<S> {
+    talk: Waiting,
+    server: PileServer<S>,
+}
+
+pub(crate) fn session_over<S: Space>(space: S) -> Session<S> {
+    let (talk, server) = open(space);
+    Session { talk, server }
 }
 
 // The space of a session that is over.
-pub(crate) fn space_of<S: Space>(session: Waiting<S>) -> S {
-    session.close()
+pub(crate) fn space_of<S: Space>(session: Session<S>) -> S {
+    let Session { talk, server } = session;
+    server.close(talk)
 }
 
-// A session that has heard a packet with this payload first, and owes a reply.
-fn session_owing<S: Space + Drop>(
+// A payload is answered, by a reply that nobody looks at.
+fn after_reply<S: Space>(server: PileServer<S>, owed: Owing, payload: &[u8]) -> Session<S> {
+    let mut server = server;
+    let mut buffer = [0; REPLY];
+    let (talk, _) = server.answer(owed, payload, &mut buffer);
+    Session { talk, server }
+}
+
+// A session that has heard a packet with this payload first: a reply is owed.
+fn owed_after<S: Space + Drop>(
     rt: &impl Abort,
-    session: Waiting<S>,
+    session: Session<S>,
     received: &[u8],
     expected: &[u8],
-) -> Owing<S> {
-    match session.hear(received) {
-        Heard::Packet { session, payload } => {
+) -> (PileServer<S>, Owing) {
+    let Session { talk, server } = session;
+    match talk.hear(received) {
+        Heard::Packet { owed, payload } => {
             assert!(rt; payload == expected, "{received:?}");
-            session
+            (server, owed)
         }
-        Heard::Other { session, .. } => {
-            let _ = space_of(session);
+        Heard::Other { talk, .. } => {
+            let _ = server.close(talk);
             panic!(rt; "it is no packet")
         }
     }
 }
 
-// A session that has answered, by a reply that nobody looks at.
-fn after_reply<S: Space>(session: Owing<S>, payload: &[u8]) -> Waiting<S> {
-    let mut buffer = [0; REPLY];
-    let (session, _) = session.answer(payload, &mut buffer);
-    session
-}
-
 // A packet is heard, and its payload answered.
 pub(crate) fn hear_packet<S: Space + Drop>(
     rt: &impl Abort,
-    session: Waiting<S>,
+    session: Session<S>,
     received: &[u8],
     payload: &[u8],
-) -> Waiting<S> {
-    after_reply(session_owing(rt, session, received, payload), payload)
+) -> Session<S> {
+    let (server, owed) = owed_after(rt, session, received, payload);
+    after_reply(server, owed, payload)
 }
 
 // What is heard is no packet, but this item, and the session still waits.
 pub(crate) fn hear_other<S: Space + Drop>(
     rt: &impl Abort,
-    session: Waiting<S>,
+    session: Session<S>,
     received: &[u8],
     expected: Item,
-) -> Waiting<S> {
-    match session.hear(received) {
-        Heard::Packet { session, .. } => {
-            let _ = space_of(after_reply(session, b""));
+) -> Session<S> {
+    let Session { talk, server } = session;
+    match talk.hear(received) {
+        Heard::Packet { owed, .. } => {
+            let _ = space_of(after_reply(server, owed, b""));
             panic!(rt; "it is a packet")
         }
-        Heard::Other { session, item } => {
+        Heard::Other { talk, item } => {
             assert!(rt; item == expected, "{received:?}");
-            session
+            Session { talk, server }
         }
     }
 }
@@ -90,42 +103,42 @@ pub(crate) fn hear_other<S: Space + Drop>(
 // A patch file is applied with this outcome, while the session waits or while it owes a reply.
 pub(crate) fn apply<S: Space + Drop>(
     rt: &impl Abort,
-    session: Waiting<S>,
+    session: Session<S>,
     owes: bool,
     file: &[u8],
     expected: Result<usize, Stopped>,
-) -> Waiting<S> {
+) -> Session<S> {
     if owes {
-        let mut session = session_owing(rt, session, &framed(b"D"), b"D");
-        assert!(rt; session.apply(file) == expected);
-        return after_reply(session, b"D");
+        let (mut server, owed) = owed_after(rt, session, &framed(b"D"), b"D");
+        assert!(rt; server.apply(file) == expected);
+        return after_reply(server, owed, b"D");
     }
     let mut session = session;
-    assert!(rt; session.apply(file) == expected);
+    assert!(rt; session.server.apply(file) == expected);
     session
 }
 
 // A payload is heard and answered with the frame of this text, and the buffer behind it is as it was.
 pub(crate) fn reply<S: Space + Drop>(
     rt: &impl Abort,
-    session: Waiting<S>,
+    session: Session<S>,
     payload: &[u8],
     text: &[u8],
-) -> Waiting<S> {
-    let session = session_owing(rt, session, &framed(payload), payload);
+) -> Session<S> {
+    let (mut server, owed) = owed_after(rt, session, &framed(payload), payload);
     let mut buffer = [b'.'; REPLY];
-    let (session, count) = session.answer(payload, &mut buffer);
+    let (talk, count) = server.answer(owed, payload, &mut buffer);
     let right = count == text.len() + 4 && buffer == framed(text);
     assert!(rt; right, "{payload:?}");
-    session
+    Session { talk, server }
 }
 
 // Payloads, each with the text of its reply.
 pub(crate) fn replies<S: Space + Drop>(
     rt: &impl Abort,
-    session: Waiting<S>,
+    session: Session<S>,
     turns: &[(&str, &str)],
-) -> Waiting<S> {
+) -> Session<S> {
     let mut session = session;
     for (payload, text) in turns {
         session = reply(rt, session, payload.as_bytes(), text.as_bytes());
@@ -144,8 +157,9 @@ pub(crate) fn replay_over<'a, S: Space>(
     calls: &[Call<'a>],
     slots: &mut [Slot<'a>],
 ) -> (bool, S) {
-    match replay(space, calls, slots) {
-        Stage::Waits(session) => (false, space_of(session)),
-        Stage::Owes(session) => (true, space_of(after_reply(session, b""))),
+    let (stage, server) = replay(space, calls, slots);
+    match stage {
+        Stage::Waits(talk) => (false, server.close(talk)),
+        Stage::Owes(owed) => (true, space_of(after_reply(server, owed, b""))),
     }
 }

@@ -4,7 +4,8 @@ use Rattle.spaces.specs.Piles.{Pile}
 use Rattle.patchfiles.specs.declared.stopped.Stopped.{Stopped}
 use Rattle.patchfiles.specs.Refusals.{patch_file_refusal_number}
 use Rattle.patchfiles.specs.Files.{asked, answer_by, left_of}
-use Rattle.serving.specs.Serving.{Run, fresh, all_served}
+use Rattle.sessions.specs.States.{State}
+use Rattle.serving.specs.Serving.{Run, fresh, gdb_service, all_served}
 use Rattle.exports.specs.declared.told.Told.{Told}
 use Rattle.exports.specs.Tellings.{done, refused, broke_off}
 use Rattle.exports.specs.Sending.{InFront}
@@ -12,8 +13,8 @@ use Rattle.exports.specs.Sending.{InFront}
 -- A day with a pile: a stream is served over it, a patch file is applied to the pile that is left, and a second stream is served
 -- over that by a new session.
 module _ (p : Pile) (before file after : List ℕ) where
-  abbrev pub first : Run
-  first = all_served false (fresh p) before
+  abbrev pub first : Run State
+  first = all_served (gdb_service false) (fresh p) before
 
   -- the pile to which the file is applied
   abbrev pub between : Pile
@@ -23,8 +24,8 @@ module _ (p : Pile) (before file after : List ℕ) where
   abbrev pub applied : Result ℕ Stopped
   applied = answer_by (asked file) between
 
-  abbrev pub second : Run
-  second = all_served false (fresh (left_of (asked file) between)) after
+  abbrev pub second : Run State
+  second = all_served (gdb_service false) (fresh (left_of (asked file) between)) after
 
   -- all that is sent
   abbrev pub sent : List ℕ

@@ -4,11 +4,12 @@ use Rattle.packets.specs.Frames.{framed}
 use Rattle.sessions.specs.States.{State}
 use Rattle.sessions.specs.Answers.{reply, Answers}
 use Rattle.serving.specs.Registers.{registers, asks_registers, MakesPcKnown}
+use Rattle.serving.specs.Serving.{gdb_service}
 use Rattle.serving.specs.Words.{Replies}
 
 -- The reply in its buffer.
 
-pub as_replied : (s t : State) (payload before buffer : List ℕ) (n : ℕ) → Answers s payload before buffer n t → length buffer ≡ 4100 → Replies false s payload buffer n t
+pub as_replied : (s t : State) (payload before buffer : List ℕ) (n : ℕ) → Answers s payload before buffer n t → length buffer ≡ 4100 → Replies (gdb_service false) s payload buffer n t
 as_replied s t payload before buffer n a long =
     let l = length-append (framed (reply s payload)) (drop n before) in
     let k = ap length (sym a.buffer_is) ∙ long in
@@ -18,7 +19,7 @@ length_registers : length (framed registers) ≡ 332
 length_registers = refl
 
 pub as_known : (s t : State) (payload before buffer after : List ℕ) (n m : ℕ) → Answers s payload before buffer n t → length buffer ≡ 4100
-    → MakesPcKnown payload buffer after n m → Replies true s payload after m t
+    → MakesPcKnown payload buffer after n m → Replies (gdb_service true) s payload after m t
 as_known s t payload before buffer after n m a long k = let h = step (asks_registers payload) k.how_many k.buffer in record { front = h.0; fits = h.1; session = a.session }
   where
     step : (b : Bool) → m ≡ (if b then 332 else n) → after ≡ (if b then framed registers ++ drop 332 buffer else buffer)

@@ -1,10 +1,11 @@
-use Rattle.std.proofs.Common.{◌≡◌, ◌≢◌, ℕ, ◌+◌, ◌-◌, ◌<◌, ◌≤◌, Bool, List, [], ◌++◌, length, drop, Some, None, Ok, Err, Option, Result, sym, subst, ap, ◌∙◌, inl, inr, arith, append_assoc}
+use Rattle.std.proofs.Common.{◌≡◌, ◌≢◌, ℕ, ◌+◌, ◌-◌, ◌<◌, ◌≤◌, List, [], ◌++◌, length, drop, Some, None, Ok, Err, Option, Result, sym, subst, ap, ◌∙◌, inl, inr, arith, append_assoc}
 use Rattle.std.proofs.lemmas.List.{length-drop, drop-drop, append-nil}
 use Rattle.std.specs.Io.KnownBytes.{Appends}
 use Rattle.std.specs.Result.{IfOk, OnOk}
 use Rattle.packets.specs.Items.{Heard, unfinished, said}
 use Rattle.packets.specs.Hearing.{heard}
 use Rattle.packets.proofs.Hearings.{hears}
+use Rattle.sessions.specs.Services.{Service}
 use Rattle.serving.specs.Serving.{Served, Turn, sends, Run, behind, serving, all_served}
 use Rattle.serving.specs.Words.{Turns, Listens, InPart, SentInTurn}
 use Rattle.packets.proofs.Streaming.{whole_or_not}
@@ -26,30 +27,30 @@ used_whole : (s : List ℕ) → 0 < (said (heard s)).used → heard s ≢ unfini
 used_whole s l u = let e = ap (λ (i : Heard). (said i).used) u in omega arith
 
 -- some turns over the bytes received, of which these are used
-pub record SoFar (known : Bool) (v : Served) (received : List ℕ) (old new : Option (List ℕ)) (used : ℕ) (w : Served) : Type 0 where
+pub record SoFar {S : Type 0} (service : Service S) (v : Served S) (received : List ℕ) (old new : Option (List ℕ)) (used : ℕ) (w : Served S) : Type 0 where
   pub turns : ℕ
   pub sent : List ℕ
-  pub run : serving known turns v received ≡ record { sent = sent; served = w; left = drop used received }
+  pub run : serving service turns v received ≡ record { sent = sent; served = w; left = drop used received }
   pub appends : Appends old new sent
   pub within : used ≤ length received
 
-module _ (known : Bool) (v : Served) (received : List ℕ) (old : Option (List ℕ)) where
-  module _ (new : Option (List ℕ)) (used : ℕ) (w : Served) (f : SoFar known v received old new used w) where
+module _ {S : Type 0} (service : Service S) (v : Served S) (received : List ℕ) (old : Option (List ℕ)) where
+  module _ (new : Option (List ℕ)) (used : ℕ) (w : Served S) (f : SoFar service v received old new used w) where
     abbrev rest : List ℕ
     rest = drop used received
 
-    abbrev next : Turn
-    next = sends known w (heard rest)
+    abbrev next : Turn S
+    next = sends service w (heard rest)
 
-    one_more : heard rest ≢ unfinished → serving known (f.turns + 1) v received ≡ record { sent = f.sent ++ next.sent; served = next.served; left = drop (said (heard rest)).used rest }
+    one_more : heard rest ≢ unfinished → serving service (f.turns + 1) v received ≡ record { sent = f.sent ++ next.sent; served = next.served; left = drop (said (heard rest)).used rest }
     one_more whole =
-        let r : Run = record { sent = f.sent; served = w; left = rest } in
-        split known f.turns 1 v received
-        ∙ ap (λ (q : Run). behind q.sent (serving known 1 q.served q.left)) f.run
-        ∙ ap (behind f.sent) (turn known 0 w rest whole)
+        let r : Run S = record { sent = f.sent; served = w; left = rest } in
+        split service f.turns 1 v received
+        ∙ ap (λ (q : Run S). behind q.sent (serving service 1 q.served q.left)) f.run
+        ∙ ap (behind f.sent) (turn service 0 w rest whole)
         ∙ (let e = append-nil next.sent in λ i. record { sent = f.sent ++ e i; served = next.served; left = drop (said (heard rest)).used rest })
 
-    pub more : (newer : Option (List ℕ)) (n : ℕ) (u : Served) → Turns known w rest new newer n u → 0 < n → SoFar known v received old newer (used + n) u
+    pub more : (newer : Option (List ℕ)) (n : ℕ) (u : Served S) → Turns service w rest new newer n u → 0 < n → SoFar service v received old newer (used + n) u
     more newer n u t some =
         let whole : heard rest ≢ unfinished = used_whole rest (rw (← t.used_by_it) some) in
         let d = length-drop used received in
@@ -62,29 +63,29 @@ module _ (known : Bool) (v : Served) (received : List ℕ) (old : Option (List �
           within = omega (arith, t.used_by_it, d, within, f.within);
         }
 
-    pub stops : (newer : Option (List ℕ)) (u : Served) → Turns known w rest new newer 0 u → Listens known v received old newer used u
+    pub stops : (newer : Option (List ℕ)) (u : Served S) → Turns service w rest new newer 0 u → Listens service v received old newer used u
     stops newer u t =
         let idle : heard rest ≡ unfinished = unused rest (sym t.used_by_it) in
-        let done : all_served known v received ≡ record { sent = f.sent; served = w; left = rest } = all_done known f.turns v received (ap (λ (q : Run). heard q.left) f.run ∙ idle) ∙ f.run in
+        let done : all_served service v received ≡ record { sent = f.sent; served = w; left = rest } = all_done service f.turns v received (ap (λ (q : Run S). heard q.left) f.run ∙ idle) ∙ f.run in
         let d = length-drop used received in
         let within = f.within in
         record {
-          sent = subst (λ (q : Run). Appends old newer q.sent) (sym done) (rw append-nil at (appends_more old new newer f.sent [] f.appends (rw idle at t.sent)));
-          used_all = (let e : used ≡ length received - length rest = omega arith in e) ∙ ap (λ (q : Run). length received - length q.left) (sym done);
-          server = t.server ∙ ap (λ (i : Heard). (sends known w i).served) idle ∙ ap (λ (q : Run). q.served) (sym done);
+          sent = subst (λ (q : Run S). Appends old newer q.sent) (sym done) (rw append-nil at (appends_more old new newer f.sent [] f.appends (rw idle at t.sent)));
+          used_all = (let e : used ≡ length received - length rest = omega arith in e) ∙ ap (λ (q : Run S). length received - length q.left) (sym done);
+          server = t.server ∙ ap (λ (i : Heard). (sends service w i).served) idle ∙ ap (λ (q : Run S). q.served) (sym done);
         }
 
-    pub fails : (u : Served) → u ≡ next.served → InPart known v received u
+    pub fails : (u : Served S) → u ≡ next.served → InPart service v received u
     fails u e = elim (whole_or_not (heard rest)) [
-      | inl idle ↦ (f.turns, e ∙ ap (λ (i : Heard). (sends known w i).served) idle ∙ ap (λ (q : Run). q.served) (sym f.run))
-      | inr whole ↦ (f.turns + 1, e ∙ ap (λ (q : Run). q.served) (sym (one_more whole)))
+      | inl idle ↦ (f.turns, e ∙ ap (λ (i : Heard). (sends service w i).served) idle ∙ ap (λ (q : Run S). q.served) (sym f.run))
+      | inr whole ↦ (f.turns + 1, e ∙ ap (λ (q : Run S). q.served) (sym (one_more whole)))
     ]
 
 -- the items of the stream one behind the other
-pub in_items : (known : Bool) (v : Served) (stream : List ℕ) (old new : Option (List ℕ)) → Appends old new (all_served known v stream).sent → SentInTurn known v stream old new
-in_items known v stream old new a items rest runs = subst (λ (r : Run). Appends old new r.sent) (each_item known (length stream) v stream items rest (omega arith) runs) a
+pub in_items : {S : Type 0} (service : Service S) (v : Served S) (stream : List ℕ) (old new : Option (List ℕ)) → Appends old new (all_served service v stream).sent → SentInTurn service v stream old new
+in_items {S = S} service v stream old new a items rest runs = subst (λ (r : Run S). Appends old new r.sent) (each_item service (length stream) v stream items rest (omega arith) runs) a
 
-pub words_too : {E : Type 0} (known : Bool) (v : Served) (received : List ℕ) (old new : Option (List ℕ)) (w : Served) (r : Result ℕ E)
-    → IfOk r (λ used. Listens known v received old new used w) → OnOk r (SentInTurn known v received old new)
-words_too known v received old new w (Ok used) l = in_items known v received old new l.sent
-words_too known v received old new w (Err e) l = tt
+pub words_too : {E S : Type 0} (service : Service S) (v : Served S) (received : List ℕ) (old new : Option (List ℕ)) (w : Served S) (r : Result ℕ E)
+    → IfOk r (λ used. Listens service v received old new used w) → OnOk r (SentInTurn service v received old new)
+words_too service v received old new w (Ok used) l = in_items service v received old new l.sent
+words_too service v received old new w (Err e) l = tt

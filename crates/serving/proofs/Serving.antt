@@ -1,10 +1,11 @@
-use Rattle.std.proofs.Common.{◌≡◌, ◌≢◌, ℕ, zero, suc, ◌+◌, ◌-◌, ◌<◌, ◌≤◌, Bool, List, [], ◌∷◌, ◌++◌, length, drop, refl, sym, subst, ap, ◌∙◌, inl, inr, arith, append_assoc, zero-add}
+use Rattle.std.proofs.Common.{◌≡◌, ◌≢◌, ℕ, zero, suc, ◌+◌, ◌-◌, ◌<◌, ◌≤◌, List, [], ◌∷◌, ◌++◌, length, drop, refl, sym, subst, ap, ◌∙◌, inl, inr, arith, append_assoc, zero-add}
 use Rattle.std.proofs.lemmas.List.{length-drop, drop-drop, append-nil}
 use Rattle.packets.specs.Items.{Heard, unfinished, resend, ignored, wrong_sum, no_end, packet, said}
 use Rattle.packets.specs.Hearing.{heard}
 use Rattle.packets.specs.Streams.{Runs, ends, goes_on}
 use Rattle.packets.proofs.Hearings.{hears}
 use Rattle.packets.proofs.Streaming.{uses, whole_or_not}
+use Rattle.sessions.specs.Services.{Service}
 use Rattle.serving.specs.Serving.{Served, Turn, sends, Run, stopped, behind, then_on, begun, serving, all_served, in_turn}
 
 -- Streams that are served: in pieces, and item by item.
@@ -13,14 +14,14 @@ use Rattle.serving.specs.Serving.{Served, Turn, sends, Run, stopped, behind, the
 pub whole_uses : (s : List ℕ) → heard s ≢ unfinished → 0 < (said (heard s)).used
 whole_uses s n = uses s (heard s) _ (hears s).begins n
 
-module _ (known : Bool) where
+module _ {S : Type 0} (service : Service S) where
   -- nothing is served of what begins with nothing whole
-  pub idle : (n : ℕ) (v : Served) (s : List ℕ) → heard s ≡ unfinished → serving known n v s ≡ stopped v s
+  pub idle : (n : ℕ) (v : Served S) (s : List ℕ) → heard s ≡ unfinished → serving service n v s ≡ stopped v s
   idle zero v s e = refl
-  idle (suc n) v s e = ap (begun known v s (serving known n)) e
+  idle (suc n) v s e = ap (begun service v s (serving service n)) e
 
-  begun_whole : (v : Served) (s : List ℕ) (run : Served → List ℕ → Run) (item : Heard) → item ≢ unfinished
-      → begun known v s run item ≡ then_on (sends known v item) (λ w. run w (drop (said item).used s))
+  begun_whole : (v : Served S) (s : List ℕ) (run : Served S → List ℕ → Run S) (item : Heard) → item ≢ unfinished
+      → begun service v s run item ≡ then_on (sends service v item) (λ w. run w (drop (said item).used s))
   begun_whole v s run unfinished n = absurd (n refl)
   begun_whole v s run resend n = refl
   begun_whole v s run ignored n = refl
@@ -29,25 +30,25 @@ module _ (known : Bool) where
   begun_whole v s run (packet payload) n = refl
 
   -- a turn
-  pub turn : (n : ℕ) (v : Served) (s : List ℕ) → heard s ≢ unfinished
-      → serving known (suc n) v s ≡ then_on (sends known v (heard s)) (λ w. serving known n w (drop (said (heard s)).used s))
-  turn n v s w = begun_whole v s (serving known n) (heard s) w
+  pub turn : (n : ℕ) (v : Served S) (s : List ℕ) → heard s ≢ unfinished
+      → serving service (suc n) v s ≡ then_on (sends service v (heard s)) (λ w. serving service n w (drop (said (heard s)).used s))
+  turn n v s w = begun_whole v s (serving service n) (heard s) w
 
-  behind_twice : (x y : List ℕ) (r : Run) → behind x (behind y r) ≡ behind (x ++ y) r
+  behind_twice : (x y : List ℕ) (r : Run S) → behind x (behind y r) ≡ behind (x ++ y) r
   behind_twice x y r = let e = append_assoc x y r.sent in λ i. record { sent = sym e i; served = r.served; left = r.left }
 
-  pub behind_stopped : (r : Run) → behind r.sent (stopped r.served r.left) ≡ r
+  pub behind_stopped : (r : Run S) → behind r.sent (stopped r.served r.left) ≡ r
   behind_stopped r = let e = append-nil r.sent in λ i. record { sent = e i; served = r.served; left = r.left }
 
   -- some turns and then others
-  pub split : (n m : ℕ) (v : Served) (s : List ℕ) → let r : Run = serving known n v s in serving known (n + m) v s ≡ behind r.sent (serving known m r.served r.left)
+  pub split : (n m : ℕ) (v : Served S) (s : List ℕ) → let r : Run S = serving service n v s in serving service (n + m) v s ≡ behind r.sent (serving service m r.served r.left)
   split zero m v s = rw zero-add refl
   split (suc n) m v s =
       let e : suc n + m ≡ suc (n + m) = omega arith in
       rw e (elim (whole_or_not (heard s)) [
         | inl u ↦ rw (idle (suc (n + m)) v s u, idle (suc n) v s u, idle m v s u) refl
         | inr w ↦
-            let t : Turn = sends known v (heard s) in
+            let t : Turn S = sends service v (heard s) in
             rw (turn (n + m) v s w, turn n v s w) (ap (behind t.sent) (split n m t.served (drop (said (heard s)).used s)) ∙ behind_twice t.sent _ _)
       ])
 
@@ -58,13 +59,13 @@ module _ (known : Bool) where
       (sym o.0, ap (λ (i : Heard). drop (said i).used (s ++ more)) o.0 ∙ sym o.1)
 
   -- turns over a piece, and then those over the piece and what comes behind it
-  pub in_pieces : (fuel : ℕ) (v : Served) (s more : List ℕ)
-      → (n : ℕ) × ((m : ℕ) → let r : Run = serving known fuel v s in serving known (n + m) v (s ++ more) ≡ behind r.sent (serving known m r.served (r.left ++ more)))
+  pub in_pieces : (fuel : ℕ) (v : Served S) (s more : List ℕ)
+      → (n : ℕ) × ((m : ℕ) → let r : Run S = serving service fuel v s in serving service (n + m) v (s ++ more) ≡ behind r.sent (serving service m r.served (r.left ++ more)))
   in_pieces zero v s more = (zero, λ m. rw zero-add refl)
   in_pieces (suc fuel) v s more = elim (whole_or_not (heard s)) [
     | inl u ↦ (zero, λ m. rw (zero-add, idle (suc fuel) v s u) refl)
     | inr w ↦
-        let t : Turn = sends known v (heard s) in
+        let t : Turn S = sends service v (heard s) in
         let h = still_heard s more w in
         let w′ : heard (s ++ more) ≢ unfinished = λ e. w (sym h.0 ∙ e) in
         let ih = in_pieces fuel t.served (drop (said (heard s)).used s) more in (
@@ -76,7 +77,7 @@ module _ (known : Bool) where
   ]
 
   -- what is left is unfinished
-  pub left_unfinished : (n : ℕ) (v : Served) (s : List ℕ) → length s ≤ n → heard (serving known n v s).left ≡ unfinished
+  pub left_unfinished : (n : ℕ) (v : Served S) (s : List ℕ) → length s ≤ n → heard (serving service n v s).left ≡ unfinished
   left_unfinished zero v [] l = refl
   left_unfinished zero v (b ∷ s) l = absurd (omega arith)
   left_unfinished (suc n) v s l = elim (whole_or_not (heard s)) [
@@ -85,51 +86,51 @@ module _ (known : Bool) where
         let d = length-drop (said (heard s)).used s in
         let some = whole_uses s w in
         let within = (hears s).within in
-        rw (turn n v s w) (left_unfinished n (sends known v (heard s)).served (drop (said (heard s)).used s) (omega (arith, d, some, within)))
+        rw (turn n v s w) (left_unfinished n (sends service v (heard s)).served (drop (said (heard s)).used s) (omega (arith, d, some, within)))
   ]
 
   -- it is the end of the stream
-  pub left_behind : (n : ℕ) (v : Served) (s : List ℕ) → (k : ℕ) × (k ≤ length s) × ((serving known n v s).left ≡ drop k s)
+  pub left_behind : (n : ℕ) (v : Served S) (s : List ℕ) → (k : ℕ) × (k ≤ length s) × ((serving service n v s).left ≡ drop k s)
   left_behind zero v s = (0, omega arith, refl)
   left_behind (suc n) v s = elim (whole_or_not (heard s)) [
     | inl u ↦ (0, omega arith, rw (idle (suc n) v s u) refl)
     | inr w ↦
         let used : ℕ = (said (heard s)).used in
-        let h = left_behind n (sends known v (heard s)).served (drop used s) in
+        let h = left_behind n (sends service v (heard s)).served (drop used s) in
         let d = length-drop used s in
         let within = (hears s).within in
         (used + h.0, omega (arith, d, within, h.1), rw (turn n v s w) (h.2 ∙ drop-drop h.0 used s))
   ]
 
-  pub left_is : (n : ℕ) (v : Served) (s : List ℕ) → let left : List ℕ = (serving known n v s).left in left ≡ drop (length s - length left) s
+  pub left_is : (n : ℕ) (v : Served S) (s : List ℕ) → let left : List ℕ = (serving service n v s).left in left ≡ drop (length s - length left) s
   left_is n v s =
       let h = left_behind n v s in
       let d = length-drop h.0 s in
       let e = ap length h.2 in
-      let k : h.0 ≡ length s - length (serving known n v s).left = omega (arith, h.1) in
+      let k : h.0 ≡ length s - length (serving service n v s).left = omega (arith, h.1) in
       h.2 ∙ ap (λ i. drop i s) k
 
   -- where some turns leave what is unfinished, more change nothing
-  pub over : (n m : ℕ) (v : Served) (s : List ℕ) → heard (serving known n v s).left ≡ unfinished → serving known (n + m) v s ≡ serving known n v s
-  over n m v s u = split n m v s ∙ ap (behind (serving known n v s).sent) (idle m _ _ u) ∙ behind_stopped (serving known n v s)
+  pub over : (n m : ℕ) (v : Served S) (s : List ℕ) → heard (serving service n v s).left ≡ unfinished → serving service (n + m) v s ≡ serving service n v s
+  over n m v s u = split n m v s ∙ ap (behind (serving service n v s).sent) (idle m _ _ u) ∙ behind_stopped (serving service n v s)
 
-  pub enough : (n : ℕ) (v : Served) (s : List ℕ) → length s ≤ n → serving known n v s ≡ all_served known v s
+  pub enough : (n : ℕ) (v : Served S) (s : List ℕ) → length s ≤ n → serving service n v s ≡ all_served service v s
   enough n v s l =
       let e : n ≡ length s + (n - length s) = omega arith in
-      ap (λ k. serving known k v s) e ∙ over (length s) (n - length s) v s (left_unfinished (length s) v s (omega arith))
+      ap (λ k. serving service k v s) e ∙ over (length s) (n - length s) v s (left_unfinished (length s) v s (omega arith))
 
   -- where they leave what is unfinished, all is served
-  pub all_done : (n : ℕ) (v : Served) (s : List ℕ) → heard (serving known n v s).left ≡ unfinished → all_served known v s ≡ serving known n v s
+  pub all_done : (n : ℕ) (v : Served S) (s : List ℕ) → heard (serving service n v s).left ≡ unfinished → all_served service v s ≡ serving service n v s
   all_done n v s u = sym (enough (n + length s) v s (omega arith)) ∙ over n (length s) v s u
 
-  pub pieces : (v : Served) (s more : List ℕ) → let r : Run = all_served known v s in all_served known v (s ++ more) ≡ behind r.sent (all_served known r.served (r.left ++ more))
+  pub pieces : (v : Served S) (s more : List ℕ) → let r : Run S = all_served service v s in all_served service v (s ++ more) ≡ behind r.sent (all_served service r.served (r.left ++ more))
   pieces v s more =
-      let r : Run = all_served known v s in
+      let r : Run S = all_served service v s in
       let p = in_pieces (length s) v s more in
       let m : ℕ = length (s ++ more) + length (r.left ++ more) in
       sym (enough (p.0 + m) v (s ++ more) (omega arith)) ∙ p.1 m ∙ ap (behind r.sent) (enough m r.served (r.left ++ more) (omega arith))
 
-  pub each_item : (n : ℕ) (v : Served) (s : List ℕ) (items : List Heard) (rest : List ℕ) → length s ≤ n → Runs s items rest → serving known n v s ≡ in_turn known v items rest
+  pub each_item : (n : ℕ) (v : Served S) (s : List ℕ) (items : List Heard) (rest : List ℕ) → length s ≤ n → Runs s items rest → serving service n v s ≡ in_turn service v items rest
   each_item n v s items rest l (ends r b) = idle n v s (sym ((hears s).only unfinished s b).0)
   each_item zero v s items rest l (goes_on stream left r item more w b runs) =
       let o = (hears s).only item left b in
@@ -142,6 +143,6 @@ module _ (known : Bool) where
       let w′ : heard s ≢ unfinished = λ e. w (o.0 ∙ e) in
       let some = whole_uses s w′ in
       let within = (hears s).within in
-      let t : Turn = sends known v (heard s) in
+      let t : Turn S = sends service v (heard s) in
       let ih = each_item n t.served (drop (said (heard s)).used s) more rest (omega (arith, d, some, within)) (subst (λ xs. Runs xs more rest) o.1 runs) in
-      turn n v s w′ ∙ ap (behind t.sent) ih ∙ ap (λ (i : Heard). then_on (sends known v i) (λ u. in_turn known u more rest)) (sym o.0)
+      turn n v s w′ ∙ ap (behind t.sent) ih ∙ ap (λ (i : Heard). then_on (sends service v i) (λ u. in_turn service u more rest)) (sym o.0)

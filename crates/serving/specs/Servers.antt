@@ -1,6 +1,7 @@
 use Rattle.std.specs.Prelude.{ℕ, Bool, List, take}
 use Rattle.spaces.specs.Piles.{Pile}
-use Rattle.sessions.specs.Sessions.{waiting}
+use Rattle.sessions.specs.States.{State}
+use Rattle.sessions.specs.Sessions.{state}
 use Rattle.serving.specs.declared.latest.Latest.{Latest}
 use Rattle.serving.specs.declared.received.Received.{Received}
 use Rattle.serving.specs.declared.server.Server.{Server}
@@ -14,8 +15,8 @@ latest l = take l.count l.reply
 abbrev pub pending : Received → List ℕ
 pending r = take r.count r.bytes
 
-abbrev pub served : {S : Type 0} → (S → Pile) → Server S → Served
-served meaning s = record { session = waiting meaning s.session; latest = latest s.latest }
+abbrev pub served : {S : Type 0} → (S → Pile) → Server S → Served State
+served meaning s = record { session = state meaning s.pile; latest = latest s.latest }
 
 abbrev pub knows_pc : {S : Type 0} → Server S → Bool
 knows_pc s = s.known_pc

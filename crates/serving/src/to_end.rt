@@ -1,9 +1,10 @@
 ghost use Rattle.std.specs.Prelude.{IfSome, OnOk, OnErr};
-ghost use Rattle.serving.specs.Serving.{fresh};
+ghost use Rattle.serving.specs.Serving.{fresh, gdb_service};
 ghost use Rattle.serving.specs.Words.{Serves, SentInTurn, ServesAll, BreaksOff};
 
 use crate::received::Received;
 use crate::server::Server;
+use sessions::Waiting;
 use spaces::Space;
 use std::io::{self, ErrorKind, Read, Write};
 
@@ -12,26 +13,35 @@ impl<S: Space> Server<S> {
     ghost use Rattle.serving.specs.Servers.{served, knows_pc};
 
     // Listens to all of the input, in 2^64 - 1 pieces at the most.
-    fn run<R: Read, W: Write>(self, input: &mut R, output: &mut W) -> (Self, io::Result<()>)
-        ensures ok { OnOk result.1 (ToTheEnd (knows_pc self) (served S.Space.meaning self) (R.remaining input.old) (R.remaining input.new) (W.contents output.old) (W.contents output.new) (served S.Space.meaning result.0)) }
-        ensures err { OnErr result.1 (InPartOf (knows_pc self) (served S.Space.meaning self) (R.remaining input.old) (R.remaining input.new) (served S.Space.meaning result.0)) }
+    fn run<R: Read, W: Write>(
+        &mut self,
+        talk: Waiting,
+        input: &mut R,
+        output: &mut W,
+    ) -> (Waiting, io::Result<()>)
+        ensures ok { OnOk result.1 (ToTheEnd (gdb_service (knows_pc self.old))
+            (served S.Space.meaning self.old) (R.remaining input.old) (R.remaining input.new)
+            (W.contents output.old) (W.contents output.new) (served S.Space.meaning self.new)) }
+        ensures err { OnErr result.1 (InPartOf (gdb_service (knows_pc self.old))
+            (served S.Space.meaning self.old) (R.remaining input.old) (R.remaining input.new)
+            (served S.Space.meaning self.new)) }
     {
-        let mut server = self;
+        let mut talk = talk;
         let mut received = Received::nothing();
         for _ in 0..u64::MAX {
             match received.read(input) {
                 Ok(true) => {}
-                Ok(false) => return (server, Ok(())),
-                Err(e) => return (server, Err(e)),
+                Ok(false) => return (talk, Ok(())),
+                Err(e) => return (talk, Err(e)),
             }
-            let (next, used) = server.listen(received.bytes(), output);
-            server = next;
+            let (next, used) = self.listen(talk, received.bytes(), output);
+            talk = next;
             match used {
                 Ok(used) => received.release(used),
-                Err(e) => return (server, Err(e)),
+                Err(e) => return (talk, Err(e)),
             }
         }
-        (server, Err(io::Error::from(ErrorKind::TimedOut)))
+        (talk, Err(io::Error::from(ErrorKind::TimedOut)))
     }
 }
 
@@ -43,11 +53,19 @@ pub fn serve<S: Space, R: Read, W: Write>(
     input: &mut R,
     output: &mut W,
 ) -> (S, io::Result<()>)
-    ensures is { OnOk result.1 (IfSome (R.remaining input.old) (λ stream. Serves known_pc (S.Space.meaning space) stream (W.contents output.old) (W.contents output.new) (S.Space.meaning result.0))) }
-    ensures in_words { OnOk result.1 (IfSome (R.remaining input.old) (λ stream. SentInTurn known_pc (fresh (S.Space.meaning space)) stream (W.contents output.old) (W.contents output.new))) }
-    ensures all { OnOk result.1 (ServesAll known_pc (S.Space.meaning space) (R.remaining input.old) (R.remaining input.new) (W.contents output.old) (W.contents output.new) (S.Space.meaning result.0)) }
-    ensures err { OnErr result.1 (BreaksOff known_pc (S.Space.meaning space) (R.remaining input.old) (R.remaining input.new) (S.Space.meaning result.0)) }
+    ensures is { OnOk result.1 (IfSome (R.remaining input.old) (λ stream.
+        Serves (gdb_service known_pc) (S.Space.meaning space) stream (W.contents output.old)
+        (W.contents output.new) (S.Space.meaning result.0))) }
+    ensures in_words { OnOk result.1 (IfSome (R.remaining input.old) (λ stream.
+        SentInTurn (gdb_service known_pc) (fresh (S.Space.meaning space)) stream
+        (W.contents output.old) (W.contents output.new))) }
+    ensures all { OnOk result.1 (ServesAll (gdb_service known_pc) (S.Space.meaning space)
+        (R.remaining input.old) (R.remaining input.new) (W.contents output.old)
+        (W.contents output.new) (S.Space.meaning result.0)) }
+    ensures err { OnErr result.1 (BreaksOff (gdb_service known_pc) (S.Space.meaning space)
+        (R.remaining input.old) (R.remaining input.new) (S.Space.meaning result.0)) }
 {
-    let (server, result) = Server::new(space, known_pc).run(input, output);
-    (server.close(), result)
+    let (talk, mut server) = Server::open(space, known_pc);
+    let (talk, result) = server.run(talk, input, output);
+    (server.close(talk), result)
 }

@@ -112,7 +112,7 @@ module _ (p : Pile) (h : History) (s : State) (payload between : List ℕ) (firs
   kept_thrice : Kept p (answered payload (frame (after (after s payload) between) payload) ∷ twice) (after (after (after s payload) between) payload)
   kept_thrice = kept_more p twice (after (after s payload) between) (answered payload (frame (after (after s payload) between) payload)) kept_twice refl
 
-  takes_there : (e : Event) (b : History) (q : Pile) (m : Mark) → e ∷ b ≡ twice → Takes (in_force p b) (marks (book p b).depth e) q m
+  takes_there : (e : Event) (b : History) (q : Pile) (m : Mark) → e ∷ b ≡ twice → Takes (in_force p b) (marks (book p b) e) q m
       → Takes (after s payload).pile (written_by (after s payload).depth (asked between)) q m
   takes_there e b q m eq t =
       let event : e ≡ answered between (frame (after s payload) between) = cc in

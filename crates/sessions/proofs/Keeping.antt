@@ -17,7 +17,7 @@ use Rattle.sessions.specs.States.{State, fresh}
 use Rattle.sessions.specs.Effects.{at_most, asked_for, met_by}
 use Rattle.sessions.specs.Answers.{spoken, read_text, reply, latest}
 use Rattle.sessions.specs.Histories.{Event, heard, answered, applied, History, Earlier, same, before}
-use Rattle.sessions.specs.Books.{marks, depth_after, in_force}
+use Rattle.sessions.specs.Books.{Book, marks, depth_after, in_force}
 use Rattle.sessions.specs.Shows.{Shows, ShownIn}
 use Rattle.sessions.specs.Promises as promised
 use Rattle.sessions.specs.Promises.{Read, since, Met, LastFault, never, RepliesShowTheMap, AskedItIsTold, EveryFaultAroseThere, UntouchedTrailsKeepReplies, Kept}
@@ -33,9 +33,13 @@ faced m (heard received) = None
 faced m (answered payload frame) = met_by m (asked payload)
 faced m (applied file outcome) = None
 
+-- the book of a session that is kept
+abbrev book_of : State → Book
+book_of s = record { depth = s.depth; pile = s.pile }
+
 -- the session after an event
 abbrev pub stepped : State → Event → State
-stepped s e = record { pile = left_by (marks s.depth e) s.pile; depth = depth_after s.depth e; last = latest (faced (shown s.pile) e) s.last }
+stepped s e = record { pile = left_by (marks (book_of s) e) s.pile; depth = depth_after s.depth e; last = latest (faced (shown s.pile) e) s.last }
 
 -- what is answered is the reply
 abbrev pub Right : State → Event → Type 0

@@ -7,7 +7,5 @@ pub mod Writing
 pub mod Hearing
 pub mod Saying
 pub mod Ending
-pub mod Underway
-pub mod Transcripts
 pub mod Deciding
 pub mod Smallest

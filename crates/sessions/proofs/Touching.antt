@@ -31,7 +31,7 @@ marks_kin p (m ∷ ms) q k = step (refused q m) (marks_kin p ms (marked q m) (on
 -- the pile under the patches in force
 pub book_kin : (p : Pile) (h : History) → Lawful p → Kin p (in_force p h)
 book_kin p [] l = record { lawful = l; rest = refl }
-book_kin p (e ∷ h) l = marks_kin p (marks (book p h).depth e) (in_force p h) (book_kin p h l)
+book_kin p (e ∷ h) l = marks_kin p (marks (book p h) e) (in_force p h) (book_kin p h l)
 
 -- a depth and an address
 module _ (j a : ℕ) where
@@ -58,7 +58,7 @@ module _ (j a : ℕ) where
   run_same p l same off = refl
   run_same p l {old} (before {k = k} {e = e} t) off =
       run_same p l t (λ c. off (record { between = c.between; event = c.event; begins = c.begins; ends = before c.ends; pile = c.pile; mark = c.mark; takes = c.takes }))
-      ∙ marks_same (marks (book p k).depth e) (in_force p k) (book_kin p k l).lawful (λ r m t′. off (record { between = k; event = e; begins = t; ends = same; pile = r; mark = m; takes = t′ }))
+      ∙ marks_same (marks (book p k) e) (in_force p k) (book_kin p k l).lawful (λ r m t′. off (record { between = k; event = e; begins = t; ends = same; pile = r; mark = m; takes = t′ }))
 
 -- what takes effect was accepted
 accepted : {p q : Pile} {ms : List Mark} {m : Mark} → Takes p ms q m → refused q m ≡ None

@@ -8,24 +8,24 @@ use Rattle.sessions.specs.Histories.{Event, heard, answered, applied, History}
 
 -- The patch book is fed the payloads answered and the files applied, and nothing else: neither replies nor outcomes.
 
--- the edits that an event asks for, at an edit depth
-abbrev pub marks : ℕ → Event → List Mark
-marks d (heard received) = []
-marks d (answered payload frame) = written_by d (asked payload)
-marks d (applied file outcome) = files.filed (files.asked file)
+-- the edit depth, and the pile under the patches in force
+pub record Book : Type 0 where
+  pub depth : ℕ
+  pub pile : Pile
+
+-- the edits that an event asks for
+abbrev pub marks : Book → Event → List Mark
+marks b (heard received) = []
+marks b (answered payload frame) = written_by b.depth (asked payload)
+marks b (applied file outcome) = files.filed (files.asked file)
 
 abbrev pub depth_after : ℕ → Event → ℕ
 depth_after d (heard received) = d
 depth_after d (answered payload frame) = deepened_by d (asked payload)
 depth_after d (applied file outcome) = d
 
--- the edit depth, and the pile under the patches in force
-pub record Book : Type 0 where
-  pub depth : ℕ
-  pub pile : Pile
-
 abbrev pub fed : Book → Event → Book
-fed b e = record { depth = depth_after b.depth e; pile = left_by (marks b.depth e) b.pile }
+fed b e = record { depth = depth_after b.depth e; pile = left_by (marks b e) b.pile }
 
 -- the book of a pile after a history
 abbrev pub book : Pile → History → Book

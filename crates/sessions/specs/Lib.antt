@@ -2,12 +2,12 @@ pub mod Refusals
 pub mod States
 pub mod Effects
 pub mod Answers
+pub mod Services
 pub mod Histories
 pub mod Books
 pub mod Shows
 pub mod Promises
 pub mod Sessions
 pub mod Texts
-pub mod Replays
 pub mod Laws
 pub mod Smallest

@@ -68,7 +68,7 @@ module _ (p : Pile) where
     pub ends : Earlier (event ∷ between) new
     pub pile : Pile
     pub mark : Mark
-    pub takes : Takes (in_force p between) (marks (book p between).depth event) pile mark
+    pub takes : Takes (in_force p between) (marks (book p between) event) pile mark
 
   -- no patch on a read's trail was set or taken back until another
   abbrev pub TrailUntouched : {h : History} → Read h → Read h → Type 0

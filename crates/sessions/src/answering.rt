@@ -1,14 +1,17 @@
-// What a session replies to a payload.
+// What the server of a pile replies to a payload.
 
-ghost use Rattle.std.specs.Prelude.{◌+◌, ◌≤◌, ◌^◌, length, Ok};
+ghost use Rattle.std.specs.Prelude.{◌+◌, ◌≤◌, ◌^◌, length, take, Ok};
 ghost use Rattle.packets.specs.Digits.{paired};
 ghost use Rattle.packets.specs.Commands.{read, write, meant};
 ghost use Rattle.sessions.specs.Answers.{Answers};
+ghost use Rattle.sessions.specs.Histories.{answered};
+ghost use Rattle.sessions.specs.Promises.{Keeps};
 ghost use Rattle.sessions.specs.Sessions.{state};
 ghost use Rattle.sessions.specs.Texts.{CarriesOut, Replies, end_of};
 
+use crate::pile_server::PileServer;
 use crate::refusal::PayloadRefusal;
-use crate::session::Session;
+use crate::talk::{Owing, Waiting};
 use crate::texts::{fail, say, say_bytes, say_fault};
 use numbers::Numbered;
 use packets::{Command, PAYLOAD, REPLY, digits, frame};
@@ -23,7 +26,7 @@ const WRITE: usize = 257;
 // How many letters the registers are. Each is `x` where nothing is known.
 pub const REGISTERS: usize = 328;
 
-impl<S: Space> Session<S> {
+impl<S: Space> PileServer<S> {
     fn read(&mut self, first: u64, count: u64, text: &mut [u8; PAYLOAD]) -> usize
         requires { first + count ≤ 2 ^ 64 }
         ensures { CarriesOut (state S.Space.meaning self.old) (read first count)
@@ -87,9 +90,10 @@ impl<S: Space> Session<S> {
         self.carry_out(command, text)
     }
 
-    // Answers a payload, refused or not.
-    pub(crate) fn answer(&mut self, payload: &[u8], reply: &mut [u8; REPLY]) -> usize
-        ensures { Answers (state S.Space.meaning self.old) payload.now reply.old reply.new result (state S.Space.meaning self.new) }
+    // Writes the frame of the reply to a payload, refused or not, in front of the buffer, and tells its length.
+    fn reply_frame(&mut self, payload: &[u8], reply: &mut [u8; REPLY]) -> usize
+        ensures { Answers (state S.Space.meaning self.old) payload.now reply.old reply.new result
+            (state S.Space.meaning self.new) }
     {
         let mut text = [0; PAYLOAD];
         let count = match self.reply(payload, &mut text) {
@@ -97,5 +101,21 @@ impl<S: Space> Session<S> {
             Err(refusal) => fail(refusal.number(), &mut text),
         };
         frame(&text[..count], reply).unwrap_or(0)
+    }
+
+    // Answers a payload: the reply's frame is in front of the buffer, and its length comes with the talk, which waits again.
+    pub fn answer(
+        &mut self,
+        owed: Owing,
+        payload: &[u8],
+        reply: &mut [u8; REPLY],
+    ) -> (Waiting, usize)
+        ensures is { Answers (state S.Space.meaning self.old) payload.now reply.old reply.new
+            result.1 (state S.Space.meaning self.new) }
+        ensures kept { Keeps (state S.Space.meaning self.old)
+            (answered payload.now (take result.1 reply.new)) (state S.Space.meaning self.new) }
+    {
+        let count = self.reply_frame(payload, reply);
+        (owed.into_waiting(), count)
     }
 }

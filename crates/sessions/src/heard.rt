@@ -1,17 +1,10 @@
-use crate::owing::Owing;
-use crate::waiting::Waiting;
+use crate::talk::{Owing, Waiting};
 use packets::Item;
 
-// What a session heard.
-pub enum Heard<'a, S> {
+// What was heard.
+pub enum Heard<'a> {
     // A good frame. Its payload is to be answered.
-    Packet {
-        session: Owing<S>,
-        payload: &'a [u8],
-    },
-    // Anything else. The session still waits.
-    Other {
-        session: Waiting<S>,
-        item: Item<'a>,
-    },
+    Packet { owed: Owing, payload: &'a [u8] },
+    // Anything else. The talk still waits.
+    Other { talk: Waiting, item: Item<'a> },
 }

@@ -5,7 +5,7 @@ use carts::{RANGES, load_cart};
 use images::LimeRange;
 use packets::{Item, REPLY};
 use patchfiles::Stopped;
-use sessions::{Call, Outcome, Slot, Stage, replay};
+use replays::{Call, Outcome, Slot, Stage, replay};
 use spaces::Space;
 use std::{fs, io};
 
@@ -67,14 +67,15 @@ fn tell_day<'f, S: Space + Drop>(
 
 // The calls are made over a new session. Once it is over, a reply that is still owed is answered.
 fn run<'a, S: Space + Drop>(cart: S, calls: &[Call<'a>], slots: &mut [Slot<'a>]) {
-    let waiting = match replay(cart, calls, slots) {
-        Stage::Waits(waiting) => waiting,
-        Stage::Owes(owing) => {
+    let (stage, mut server) = replay(cart, calls, slots);
+    let talk = match stage {
+        Stage::Waits(talk) => talk,
+        Stage::Owes(owed) => {
             let mut reply = Slot::empty().reply;
-            owing.answer(b"", &mut reply).0
+            server.answer(owed, b"", &mut reply).0
         }
     };
-    let _cart = waiting.close();
+    let _cart = server.close(talk);
 }
 
 fn tell_call(rt: &HostRuntime, call: Call<'_>) -> io::Result<()> {

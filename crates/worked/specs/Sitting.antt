@@ -2,7 +2,7 @@ use Rattle.std.specs.Prelude.{◌≡◌, ℕ, false, List, codes}
 use Rattle.sessions.specs.States as states
 use Rattle.sessions.specs.States.{State}
 use Rattle.sessions.specs.Answers.{reply, after}
-use Rattle.serving.specs.Serving.{fresh, all_served}
+use Rattle.serving.specs.Serving.{fresh, gdb_service, all_served}
 use Rattle.carts.specs.Worked.{sample}
 
 -- A session over the sample cart.
@@ -13,7 +13,7 @@ start = states.fresh sample
 
 -- what is sent for all that comes from GDB
 abbrev pub sent : List ℕ → List ℕ
-sent stream = (all_served false (fresh sample) stream).sent
+sent stream = (all_served (gdb_service false) (fresh sample) stream).sent
 
 -- what a payload is replied, and what asking for the last fault is replied behind it
 pub record Told (s : State) (payload told fault : List ℕ) : Type 0 where

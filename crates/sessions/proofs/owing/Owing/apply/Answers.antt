@@ -1,5 +1,0 @@
-use Rattle.sessions.proofs.Calls.{keeps_applied}
-use Rattle.sessions.proofs.owing.Owing.apply.Goals as goal
-
-pub returns-clause-kept : goal.returns-clause-kept
-returns-clause-kept g c = keeps_applied _ _ c.args.file.now c.apply.result c.apply.ensures
