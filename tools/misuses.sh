@@ -23,10 +23,10 @@ misuse() {
     named replays "$1" "$2"
 }
 
-# droppable STATE
-droppable() {
-    sed "s/^pub struct $1 {/#[derive(Drop)]\n&/" crates/sessions/src/talk.rt >"$copy/crates/sessions/src/talk.rt"
-    named sessions invalid-derive "$1 made droppable"
+# derived TRAITS STATE WHAT
+derived() {
+    sed "s/^pub struct $2 {/#[derive($1)]\n&/" crates/sessions/src/talk.rt >"$copy/crates/sessions/src/talk.rt"
+    named sessions invalid-derive "$3"
 }
 
 misuse unknown-method 'hearing while a reply is owed' \
@@ -38,8 +38,10 @@ misuse borrow-e0382 'answering twice' \
     (server.answer(owed, b"", reply).0, server.answer(owed, b"", reply).0)
 }'
 misuse private-field 'owing a reply without hearing' \
-    'fn owe(talk: Waiting) -> Owing { let Waiting { talk } = talk; Owing { talk } }'
+    'fn owe(talk: Waiting) -> Owing { Owing { talk } }'
 misuse mismatched-types 'closing while a reply is owed' \
     'fn close_early<S: Space>(server: PileServer<S>, owed: Owing) -> S { server.close(owed) }'
-droppable Waiting
-droppable Owing
+for state in Waiting Owing; do
+    derived Drop $state "$state that can be dropped"
+    derived 'Clone, Copy' $state "$state that can be copied"
+done

@@ -49,7 +49,7 @@ fn after_reply<S: Space>(server: PileServer<S>, owed: Owing, payload: &[u8]) -> 
     Session { talk, server }
 }
 
-// A session that has heard a packet with this payload first: a reply is owed.
+// A packet with this payload is heard first: the server, and the reply that is owed.
 fn owed_after<S: Space + Drop>(
     rt: &impl Abort,
     session: Session<S>,
@@ -80,7 +80,7 @@ pub(crate) fn hear_packet<S: Space + Drop>(
     after_reply(server, owed, payload)
 }
 
-// What is heard is no packet, but this item, and the session still waits.
+// What is heard is no packet, but this item, and the talk still waits.
 pub(crate) fn hear_other<S: Space + Drop>(
     rt: &impl Abort,
     session: Session<S>,
@@ -100,7 +100,7 @@ pub(crate) fn hear_other<S: Space + Drop>(
     }
 }
 
-// A patch file is applied with this outcome, while the session waits or while it owes a reply.
+// A patch file is applied with this outcome, while the talk waits or while a reply is owed.
 pub(crate) fn apply<S: Space + Drop>(
     rt: &impl Abort,
     session: Session<S>,
@@ -151,7 +151,7 @@ pub(crate) fn dialogue<S: Space + Drop>(rt: &impl Abort, space: S, turns: &[(&st
     space_of(replies(rt, session_over(space), turns))
 }
 
-// Calls are made over a new session: whether it owes a reply at the end, and its space.
+// Calls are made over a new session: whether a reply is owed at the end, and its space.
 pub(crate) fn replay_over<'a, S: Space>(
     space: S,
     calls: &[Call<'a>],

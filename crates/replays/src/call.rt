@@ -18,7 +18,7 @@ pub enum Call<'a> {
 // What comes of a call.
 #[derive(Clone, Copy, Debug, PartialEq, Eq)]
 pub enum Outcome<'a> {
-    // The session waits where it should owe a reply, or owes one where it should wait.
+    // No reply is owed and a payload is to be answered, or one is owed and bytes are to be heard.
     NotAllowed,
     Heard(Item<'a>),
     // The length of the reply's frame.

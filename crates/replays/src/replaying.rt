@@ -1,6 +1,7 @@
 ghost use Rattle.std.specs.Prelude.{map};
 ghost use Rattle.sessions.specs.Services.{pile_service};
-ghost use Rattle.replays.specs.Replays.{stand, call_meant, slot_meant, Steps, Replays, KeptAllAlong};
+ghost use Rattle.replays.specs.Replays.{stand, call_meant, slot_meant};
+ghost use Rattle.replays.specs.Replays.{Steps, Replays, KeptAllAlong};
 
 use crate::call::{Call, Outcome, Slot};
 use packets::Item;
@@ -13,19 +14,18 @@ pub enum Stage {
     Owes(Owing),
 }
 
-// One call while the talk waits.
-fn call_waiting<'a, S: Space>(
-    talk: Waiting,
+// One call, if the talk allows it.
+fn step<'a, S: Space>(
+    stage: Stage,
     server: &mut PileServer<S>,
     call: Call<'a>,
     slot: &mut Slot<'a>,
 ) -> Stage
-    ensures { Steps pile_service (stand S.Space.meaning (Stage.Waits talk) server.old)
-        (call_meant call.entry) (slot_meant slot.old)
-        (slot_meant slot.new) (stand S.Space.meaning result server.new) }
+    ensures { Steps pile_service (stand S.Space.meaning stage server.old) (call_meant call.entry)
+        (slot_meant slot.old) (slot_meant slot.new) (stand S.Space.meaning result server.new) }
 {
-    match call {
-        Call::Hear(received) => match talk.hear(received) {
+    match (stage, call) {
+        (Stage::Waits(talk), Call::Hear(received)) => match talk.hear(received) {
             Heard::Packet { owed, payload } => {
                 slot.outcome = Outcome::Heard(Item::Packet { payload });
                 Stage::Owes(owed)
@@ -35,58 +35,19 @@ fn call_waiting<'a, S: Space>(
                 Stage::Waits(talk)
             }
         },
-        Call::Answer(_) => {
-            slot.outcome = Outcome::NotAllowed;
-            Stage::Waits(talk)
-        }
-        Call::Apply(file) => {
-            slot.outcome = Outcome::Applied(server.apply(file));
-            Stage::Waits(talk)
-        }
-    }
-}
-
-// One call while it owes a reply.
-fn call_owing<'a, S: Space>(
-    owed: Owing,
-    server: &mut PileServer<S>,
-    call: Call<'a>,
-    slot: &mut Slot<'a>,
-) -> Stage
-    ensures { Steps pile_service (stand S.Space.meaning (Stage.Owes owed) server.old)
-        (call_meant call.entry) (slot_meant slot.old)
-        (slot_meant slot.new) (stand S.Space.meaning result server.new) }
-{
-    match call {
-        Call::Hear(_) => {
-            slot.outcome = Outcome::NotAllowed;
-            Stage::Owes(owed)
-        }
-        Call::Answer(payload) => {
+        (Stage::Owes(owed), Call::Answer(payload)) => {
             let (talk, count) = server.answer(owed, payload, &mut slot.reply);
             slot.outcome = Outcome::Answered(count);
             Stage::Waits(talk)
         }
-        Call::Apply(file) => {
+        (stage, Call::Apply(file)) => {
             slot.outcome = Outcome::Applied(server.apply(file));
-            Stage::Owes(owed)
+            stage
         }
-    }
-}
-
-fn step<'a, S: Space>(
-    stage: Stage,
-    server: &mut PileServer<S>,
-    call: Call<'a>,
-    slot: &mut Slot<'a>,
-) -> Stage
-    ensures { Steps pile_service (stand S.Space.meaning stage server.old)
-        (call_meant call.entry) (slot_meant slot.old)
-        (slot_meant slot.new) (stand S.Space.meaning result server.new) }
-{
-    match stage {
-        Stage::Waits(talk) => call_waiting(talk, server, call, slot),
-        Stage::Owes(owed) => call_owing(owed, server, call, slot),
+        (stage, _) => {
+            slot.outcome = Outcome::NotAllowed;
+            stage
+        }
     }
 }
 

@@ -20,12 +20,12 @@ module _ (p : Pile) (known : Bool) where
   kept_item v stream no_end h k = kept_more p h v.session (heard stream) k tt
   kept_item v stream (packet payload) h k = kept_more p _ v.session (answered payload (framed (reply v.session payload))) (kept_more p h v.session (heard stream) k tt) refl
 
-  kept_on : (n : ℕ) (v : Served State) (stream : List ℕ) (h : History) → Kept p h v.session → Kept p (history (gdb_service known) n v stream h) (serving (gdb_service known) n v stream).served.session
+  kept_on : (n : ℕ) (v : Served State) (stream : List ℕ) (h : History) → Kept p h v.session → Kept p (history known n v stream h) (serving (gdb_service known) n v stream).served.session
   kept_on zero v stream h k = k
   kept_on (suc n) v stream h k = step (hearing.heard stream) (λ w rest g. kept_on n w rest g)
     where
-      step : (item : Heard) → ((w : Served State) (rest : List ℕ) (g : History) → Kept p g w.session → Kept p (history (gdb_service known) n w rest g) (serving (gdb_service known) n w rest).served.session)
-          → Kept p (go_on (gdb_service known) v stream h (history (gdb_service known) n) item) (begun (gdb_service known) v stream (serving (gdb_service known) n) item).served.session
+      step : (item : Heard) → ((w : Served State) (rest : List ℕ) (g : History) → Kept p g w.session → Kept p (history known n w rest g) (serving (gdb_service known) n w rest).served.session)
+          → Kept p (go_on known v stream h (history known n) item) (begun (gdb_service known) v stream (serving (gdb_service known) n) item).served.session
       step unfinished more = k
       step resend more = more v _ _ (kept_item v stream resend h k)
       step ignored more = more v _ _ (kept_item v stream ignored h k)

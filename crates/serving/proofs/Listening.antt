@@ -1,7 +1,6 @@
-use Rattle.std.proofs.Common.{◌≡◌, ◌≢◌, ℕ, ◌+◌, ◌-◌, ◌<◌, ◌≤◌, List, [], ◌++◌, length, drop, Some, None, Ok, Err, Option, Result, sym, subst, ap, ◌∙◌, inl, inr, arith, append_assoc}
+use Rattle.std.proofs.Common.{◌≡◌, ◌≢◌, ℕ, ◌+◌, ◌-◌, ◌<◌, ◌≤◌, List, [], ◌++◌, length, drop, Some, None, Option, sym, subst, ap, ◌∙◌, inl, inr, arith, append_assoc}
 use Rattle.std.proofs.lemmas.List.{length-drop, drop-drop, append-nil}
 use Rattle.std.specs.Io.KnownBytes.{Appends}
-use Rattle.std.specs.Result.{IfOk, OnOk}
 use Rattle.packets.specs.Items.{Heard, unfinished, said}
 use Rattle.packets.specs.Hearing.{heard}
 use Rattle.packets.proofs.Hearings.{hears}
@@ -84,8 +83,3 @@ module _ {S : Type 0} (service : Service S) (v : Served S) (received : List ℕ)
 -- the items of the stream one behind the other
 pub in_items : {S : Type 0} (service : Service S) (v : Served S) (stream : List ℕ) (old new : Option (List ℕ)) → Appends old new (all_served service v stream).sent → SentInTurn service v stream old new
 in_items {S = S} service v stream old new a items rest runs = subst (λ (r : Run S). Appends old new r.sent) (each_item service (length stream) v stream items rest (omega arith) runs) a
-
-pub words_too : {E S : Type 0} (service : Service S) (v : Served S) (received : List ℕ) (old new : Option (List ℕ)) (w : Served S) (r : Result ℕ E)
-    → IfOk r (λ used. Listens service v received old new used w) → OnOk r (SentInTurn service v received old new)
-words_too service v received old new w (Ok used) l = in_items service v received old new l.sent
-words_too service v received old new w (Err e) l = tt

@@ -8,9 +8,9 @@ use Rattle.sessions.specs.States.{State}
 use Rattle.sessions.specs.Services.{Service, pile_service}
 use Rattle.serving.specs.Registers.{registers, asks_registers}
 
--- What a server sends, and what it is afterwards, by what it does to payloads.
+-- What is sent to GDB, and what is served to it afterwards, by the service that answers.
 
--- a server: its session, and the frame of its latest reply, [] where there is none yet
+-- what is served to GDB: a session, and the frame of the latest reply, [] where there is none yet
 pub record Served (S : Type 0) : Type 0 where
   pub session : S
   pub latest : List ℕ
@@ -19,7 +19,7 @@ pub record Served (S : Type 0) : Type 0 where
 abbrev pub fresh : Pile → Served State
 fresh p = record { session = states.fresh p; latest = [] }
 
--- the server of a pile, where the program counter is made known, or not
+-- the service of a pile, with the program counter made known or not
 abbrev pub replied : Bool → State → List ℕ → List ℕ
 replied known s payload = if known && asks_registers payload then registers else pile_service.reply s payload
 
@@ -35,12 +35,12 @@ due ignored latest = []
 due no_end latest = []
 due unfinished latest = []
 
--- what is sent for an item, and the server after it
+-- what is sent for an item, and what is served after it
 pub record Turn (S : Type 0) : Type 0 where
   pub sent : List ℕ
   pub served : Served S
 
--- what is sent for a stream, the server after it, and what is left of the stream: a frame that is unfinished
+-- what is sent for a stream, what is served after it, and what is left of the stream: a frame that is unfinished
 pub record Run (S : Type 0) : Type 0 where
   pub sent : List ℕ
   pub served : Served S
@@ -61,7 +61,7 @@ module _ {S : Type 0} (service : Service S) where
   abbrev pub answered : Served S → List ℕ → Served S
   answered v payload = record { session = service.after v.session payload; latest = framed (service.reply v.session payload) }
 
-  -- the server after an item
+  -- what is served after an item
   abbrev pub after_item : Served S → Heard → Served S
   after_item v (packet payload) = answered v payload
   after_item v other = v

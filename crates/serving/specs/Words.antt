@@ -1,4 +1,4 @@
-use Rattle.std.specs.Prelude.{◌≡◌, ℕ, ◌-◌, ◌≤◌, Bool, List, ◌++◌, length, take, Option}
+use Rattle.std.specs.Prelude.{◌≡◌, ℕ, ◌-◌, ◌≤◌, List, ◌++◌, length, take, Option}
 use Rattle.std.specs.Io.KnownBytes.{Appends, Consumes, IsAtEnd}
 use Rattle.spaces.specs.Piles.{Pile}
 use Rattle.packets.specs.Frames.{framed}
@@ -7,7 +7,7 @@ use Rattle.packets.specs.Hearing.{heard}
 use Rattle.packets.specs.Streams.{Runs}
 use Rattle.sessions.specs.States.{State}
 use Rattle.sessions.specs.Services.{Service}
-use Rattle.serving.specs.Serving.{Served, fresh, gdb_service, sends, Run, serving, all_served, behind, in_turn}
+use Rattle.serving.specs.Serving.{Served, fresh, sends, Run, serving, all_served, behind, in_turn}
 
 -- What calls do, and what holds of every stream. `old` and `new` are what the output holds where it is known, `before` and
 -- `after` what the input has left where that is known.
@@ -62,16 +62,15 @@ module _ (service : Service State) where
 
 -- a stream is served item by item
 abbrev pub EachItemInTurn : Type 0
-EachItemInTurn = (known : Bool) (v : Served State) (stream : List ℕ) (items : List Heard) (rest : List ℕ) → Runs stream items rest
-    → all_served (gdb_service known) v stream ≡ in_turn (gdb_service known) v items rest
+EachItemInTurn = (service : Service State) (v : Served State) (stream : List ℕ) (items : List Heard) (rest : List ℕ) → Runs stream items rest
+    → all_served service v stream ≡ in_turn service v items rest
 
 -- it may come in pieces
 abbrev pub PiecesDoNotMatter : Type 0
-PiecesDoNotMatter = (known : Bool) (v : Served State) (piece more : List ℕ) →
-    let r : Run State = all_served (gdb_service known) v piece in
-    all_served (gdb_service known) v (piece ++ more) ≡ behind r.sent (all_served (gdb_service known) r.served (r.left ++ more))
+PiecesDoNotMatter = (service : Service State) (v : Served State) (piece more : List ℕ) →
+    let r : Run State = all_served service v piece in
+    all_served service v (piece ++ more) ≡ behind r.sent (all_served service r.served (r.left ++ more))
 
 -- no more turns are needed than it has bytes
 abbrev pub FewTurns : Type 0
-FewTurns = (known : Bool) (v : Served State) (stream : List ℕ) (n : ℕ) → length stream ≤ n
-    → serving (gdb_service known) n v stream ≡ all_served (gdb_service known) v stream
+FewTurns = (service : Service State) (v : Served State) (stream : List ℕ) (n : ℕ) → length stream ≤ n → serving service n v stream ≡ all_served service v stream

@@ -18,7 +18,7 @@ pub fn few_turns()
     ensures { FewTurns }
 {}
 
-// The session of a server keeps its whole promise, whatever the stream and however much of it has been served.
+// The session that is served keeps its whole promise, whatever the stream and however much of it has been served.
 pub fn every_served_session_is_kept()
     ensures { EveryServedSessionIsKept }
 {}

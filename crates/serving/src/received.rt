@@ -36,7 +36,8 @@ impl Received {
     // to 2^64 - 1 times.
     pub(crate) fn read<R: Read>(&mut self, input: &mut R) -> io::Result<bool>
         requires { length (pending self.old) < 4100 }
-        ensures ok { IfOk result (Reads (R.remaining input.old) (R.remaining input.new) (pending self.old) (pending self.new)) }
+        ensures ok { IfOk result (Reads (R.remaining input.old) (R.remaining input.new)
+            (pending self.old) (pending self.new)) }
         ensures err { OnErr result (Keeps (R.remaining input.old) (R.remaining input.new)) }
         ensures retried { IfErr result (λ e. error_kind e ≢ ErrorKind.Interrupted) }
     {

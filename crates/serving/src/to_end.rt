@@ -4,44 +4,30 @@ ghost use Rattle.serving.specs.Words.{Serves, SentInTurn, ServesAll, BreaksOff};
 
 use crate::received::Received;
 use crate::server::Server;
-use sessions::Waiting;
 use spaces::Space;
 use std::io::{self, ErrorKind, Read, Write};
 
 impl<S: Space> Server<S> {
     ghost use Rattle.serving.specs.Reading.{ToTheEnd, InPartOf};
-    ghost use Rattle.serving.specs.Servers.{served, knows_pc};
+    ghost use Rattle.serving.specs.Servers.{served, service};
 
     // Listens to all of the input, in 2^64 - 1 pieces at the most.
-    fn run<R: Read, W: Write>(
-        &mut self,
-        talk: Waiting,
-        input: &mut R,
-        output: &mut W,
-    ) -> (Waiting, io::Result<()>)
-        ensures ok { OnOk result.1 (ToTheEnd (gdb_service (knows_pc self.old))
-            (served S.Space.meaning self.old) (R.remaining input.old) (R.remaining input.new)
-            (W.contents output.old) (W.contents output.new) (served S.Space.meaning self.new)) }
-        ensures err { OnErr result.1 (InPartOf (gdb_service (knows_pc self.old))
-            (served S.Space.meaning self.old) (R.remaining input.old) (R.remaining input.new)
-            (served S.Space.meaning self.new)) }
+    fn run<R: Read, W: Write>(&mut self, input: &mut R, output: &mut W) -> io::Result<()>
+        ensures ok { OnOk result (ToTheEnd (service self.old) (served S.Space.meaning self.old)
+            (R.remaining input.old) (R.remaining input.new) (W.contents output.old)
+            (W.contents output.new) (served S.Space.meaning self.new)) }
+        ensures err { OnErr result (InPartOf (service self.old) (served S.Space.meaning self.old)
+            (R.remaining input.old) (R.remaining input.new) (served S.Space.meaning self.new)) }
     {
-        let mut talk = talk;
         let mut received = Received::nothing();
         for _ in 0..u64::MAX {
-            match received.read(input) {
-                Ok(true) => {}
-                Ok(false) => return (talk, Ok(())),
-                Err(e) => return (talk, Err(e)),
+            if !received.read(input)? {
+                return Ok(());
             }
-            let (next, used) = self.listen(talk, received.bytes(), output);
-            talk = next;
-            match used {
-                Ok(used) => received.release(used),
-                Err(e) => return (talk, Err(e)),
-            }
+            let used = self.listen(received.bytes(), output)?;
+            received.release(used);
         }
-        (talk, Err(io::Error::from(ErrorKind::TimedOut)))
+        Err(io::Error::from(ErrorKind::TimedOut))
     }
 }
 
@@ -65,7 +51,7 @@ pub fn serve<S: Space, R: Read, W: Write>(
     ensures err { OnErr result.1 (BreaksOff (gdb_service known_pc) (S.Space.meaning space)
         (R.remaining input.old) (R.remaining input.new) (S.Space.meaning result.0)) }
 {
-    let (talk, mut server) = Server::open(space, known_pc);
-    let (talk, result) = server.run(talk, input, output);
-    (server.close(talk), result)
+    let mut server = Server::new(space, known_pc);
+    let result = server.run(input, output);
+    (server.close(), result)
 }

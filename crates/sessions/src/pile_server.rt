@@ -42,7 +42,7 @@ impl<S: Space> PileServer<S> {
         patchfiles::apply(&mut self.space, file)
     }
 
-    // The pile, from a session that is over: a talk that waits is needed, so no reply is owed.
+    // The pile, from a session that is over. A talk that waits is needed: one that owes a reply has to be answered first.
     pub fn close(self, talk: Waiting) -> S
         ensures { result ≡ self.space }
     {

@@ -24,7 +24,7 @@ impl Waiting {
         Waiting { talk: Talk }
     }
 
-    // Hears the first item in the bytes received. No server is asked, so each keeps its promise with this event more.
+    // Hears the first item in the bytes received. No server is changed, so each keeps its promise with this event more.
     pub fn hear(self, received: &[u8]) -> Heard<'_>
         ensures is { HearsItem received.now result }
         ensures kept { (s : State) → Keeps s (heard received.now) s }
