@@ -34,7 +34,7 @@ pub record Place : Type 0 where
   pub outcome : Outcome
   pub frame : List ℕ
 
--- a session: whether a reply is owed, and the state of whoever serves
+-- a session: whether the talk owes a reply, and the state of the server
 pub record Stand (S : Type 0) : Type 0 where
   pub owes : Bool
   pub state : S
@@ -61,7 +61,7 @@ stage_owes (Owes owed) = true
 abbrev pub stand : {S : Type 0} → (S → Pile) → Stage → PileServer S → Stand State
 stand meaning stage server = record { owes = stage_owes stage; state = state meaning server }
 
--- a call's outcome, and the session afterwards: where the talk waits no answer is allowed, and where a reply is owed nothing is heard
+-- a call's outcome, and the session afterwards: a talk that waits allows no answer, and one that owes a reply hears nothing
 pub record Played (S : Type 0) : Type 0 where
   pub place : Place
   pub stand : Stand S

@@ -4,14 +4,14 @@ use Rattle.patchfiles.specs.Files as files
 use Rattle.sessions.specs.States.{State}
 use Rattle.sessions.specs.Answers as answers
 
--- what whoever serves does, by a state: what is replied to a payload, what applying a file answers, and the state after each
+-- what a server does in each of its states: what it replies to a payload, what applying a file answers, and the state after each
 pub record Service (S : Type 0) : Type 0 where
   pub reply : S → List ℕ → List ℕ
   pub after : S → List ℕ → S
   pub outcome : S → List ℕ → Result ℕ Stopped
   pub applied_to : S → List ℕ → S
 
--- the server of a pile
+-- of the server of a pile
 abbrev pub pile_service : Service State
 pile_service = record {
   reply = answers.reply;

@@ -41,6 +41,7 @@ impl Waiting {
         }
     }
 
+    // It is over.
     pub(crate) fn end(self) {
         let Waiting { talk: Talk } = self;
     }
