@@ -7,8 +7,8 @@ trap 'rm -rf "$copy"' EXIT
 cd "$(dirname "$0")/.."
 cp -r crates.txt crates "$copy"
 
-# named CRATE ERROR WHAT
-named() {
+# expect_error CRATE ERROR WHAT
+expect_error() {
     if (cd "$copy/crates/$1" && rt check) >"$copy/out.log" 2>&1 || ! grep -q "error\[$2\]" "$copy/out.log"; then
         echo "not refused: $3"
         exit 1
@@ -20,13 +20,13 @@ named() {
 misuse() {
     cp crates/replays/src/replaying.rt "$copy/crates/replays/src"
     printf '\n%s\n' "$3" >>"$copy/crates/replays/src/replaying.rt"
-    named replays "$1" "$2"
+    expect_error replays "$1" "$2"
 }
 
-# derived TRAITS STATE WHAT
-derived() {
+# derive_on TRAITS STATE WHAT
+derive_on() {
     sed "s/^pub struct $2 {/#[derive($1)]\n&/" crates/sessions/src/talk.rt >"$copy/crates/sessions/src/talk.rt"
-    named sessions invalid-derive "$3"
+    expect_error sessions invalid-derive "$3"
 }
 
 misuse unknown-method 'hearing while a reply is owed' \
@@ -39,9 +39,11 @@ misuse borrow-e0382 'answering twice' \
 }'
 misuse private-field 'owing a reply without hearing' \
     'fn owe(talk: Waiting) -> Owing { Owing { talk } }'
+misuse linear-value-let-go 'letting a server fall' \
+    'fn let_server_fall<S: Space + Drop>(server: PileServer<S>) {}'
 misuse mismatched-types 'closing while a reply is owed' \
     'fn close_early<S: Space>(server: PileServer<S>, owed: Owing) -> S { server.close(owed) }'
 for state in Waiting Owing; do
-    derived Drop $state "$state that can be dropped"
-    derived 'Clone, Copy' $state "$state that can be copied"
+    derive_on Drop $state "$state that can be dropped"
+    derive_on 'Clone, Copy' $state "$state that can be copied"
 done

@@ -1,5 +1,5 @@
 use crate::piles::{counting, windowed};
-use crate::talk::{dialogue, framed, replay_over};
+use crate::session::{dialogue, framed, replay_over};
 use packets::{Item, REPLY};
 use patchfiles::{PatchFileRefusal, Stopped};
 use replays::{Call, Outcome, Slot};

@@ -1,4 +1,4 @@
-use crate::talk::dialogue;
+use crate::session::dialogue;
 use carts::{RANGES, load_cart};
 use images::LimeRange;
 use std::test::Fail;

@@ -1,4 +1,4 @@
-use crate::talk::dialogue;
+use crate::session::dialogue;
 use carts::{RANGES, cr3_in, load_cart};
 use images::{LimeRange, LoadRefusal};
 use std::alloc::AllocError;

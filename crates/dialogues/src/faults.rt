@@ -1,5 +1,5 @@
 use crate::piles::{counting, windowed};
-use crate::talk::dialogue;
+use crate::session::dialogue;
 
 // The latest that a read met counts, after some bytes or none.
 const LATEST: &[(&str, &str)] = &[

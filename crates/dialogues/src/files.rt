@@ -1,5 +1,5 @@
 use crate::piles::{counting, windowed};
-use crate::talk::{apply, replies, session_over, space_of};
+use crate::session::{apply, replies, session_over, space_of};
 use numbers::Numbered;
 use patchfiles::{PatchFileRefusal, Stopped};
 use spaces::EditRefusal;

@@ -1,5 +1,5 @@
 use crate::piles::{counting, spared, windowed};
-use crate::talk::dialogue;
+use crate::session::dialogue;
 use outsiders::{Ramp, Window};
 use overlays::Overlay;
 

@@ -1,5 +1,5 @@
 use crate::piles::counting;
-use crate::talk::{hear_other, hear_packet, replies, session_over, space_of};
+use crate::session::{hear_other, hear_packet, replies, session_over, space_of};
 use packets::Item;
 use std::process::Abort;
 

@@ -23,6 +23,6 @@ mod piles;
 #[cfg(test)]
 mod refusals;
 #[cfg(test)]
-mod table;
+mod session;
 #[cfg(test)]
-mod talk;
+mod table;

@@ -1,5 +1,5 @@
 use crate::piles::counting;
-use crate::talk::{dialogue, replies, reply, session_over, space_of};
+use crate::session::{dialogue, replies, reply, session_over, space_of};
 use packets::PAYLOAD;
 
 const DIGITS: [u8; 16] = *b"0123456789abcdef";

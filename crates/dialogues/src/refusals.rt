@@ -1,5 +1,5 @@
 use crate::piles::windowed;
-use crate::talk::{replies, reply, session_over, space_of};
+use crate::session::{replies, reply, session_over, space_of};
 use std::process::Abort;
 
 // A session that has patched address 4 at depth 2 and met a fault.

@@ -1,5 +1,5 @@
 use crate::piles::{counting, windowed};
-use crate::talk::{dialogue, framed, reply, session_over, space_of};
+use crate::session::{dialogue, framed, reply, session_over, space_of};
 
 // Frames as the protocol's manual and GDB's logs have them, by which the frames of these tests are judged.
 const FRAMES: &[(&str, &str)] = &[

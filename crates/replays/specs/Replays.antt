@@ -34,7 +34,7 @@ pub record Place : Type 0 where
   pub outcome : Outcome
   pub frame : List ℕ
 
--- a session: whether the talk owes a reply, and the state of the server
+-- a talk and a server: whether the talk owes a reply, and the server's state
 pub record Stand (S : Type 0) : Type 0 where
   pub owes : Bool
   pub state : S

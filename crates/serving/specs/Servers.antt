@@ -17,7 +17,7 @@ abbrev pub pending : Received → List ℕ
 pending r = take r.count r.bytes
 
 abbrev pub served : {S : Type 0} → (S → Pile) → Server S → Served State
-served meaning s = record { session = state meaning s.server; latest = latest s.latest }
+served meaning s = record { session = state meaning s.pile_server; latest = latest s.latest }
 
 abbrev pub knows_pc : {S : Type 0} → Server S → Bool
 knows_pc s = s.known_pc

@@ -19,10 +19,11 @@ pub record Served (S : Type 0) : Type 0 where
 abbrev pub fresh : Pile → Served State
 fresh p = record { session = states.fresh p; latest = [] }
 
--- the service of a pile, with the program counter made known or not
+-- what is replied to a payload, where the program counter is made known, or not
 abbrev pub replied : Bool → State → List ℕ → List ℕ
 replied known s payload = if known && asks_registers payload then registers else pile_service.reply s payload
 
+-- the service of a pile with such replies
 abbrev pub gdb_service : Bool → Service State
 gdb_service known = record { reply = replied known; after = pile_service.after; outcome = pile_service.outcome; applied_to = pile_service.applied_to }
 

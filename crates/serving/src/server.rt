@@ -14,9 +14,9 @@ use std::io::{self, Write};
 
 // What serves a pile to GDB. All that it does is hear and answer, so the session keeps its whole promise.
 pub struct Server<S> {
-    // is always there: hearing takes it out and puts it back
+    // there between calls: hearing takes it out and puts it back
     talk: Option<Waiting>,
-    server: PileServer<S>,
+    pile_server: PileServer<S>,
     known_pc: bool,
     latest: Latest,
     ghost waits: { is_some talk ≡ true },
@@ -45,10 +45,10 @@ impl<S: Space> Server<S> {
         ensures server { served S.Space.meaning result ≡ fresh (S.Space.meaning space) }
         ensures pc { knows_pc result ≡ known_pc }
     {
-        let (talk, server) = open(space);
+        let (talk, pile_server) = open(space);
         Server {
             talk: Some(talk),
-            server,
+            pile_server,
             known_pc,
             latest: Latest::none(),
         }
@@ -56,16 +56,16 @@ impl<S: Space> Server<S> {
 
     // Answers a payload: the frame that is sent is in front of the buffer, and its length comes with the talk.
     fn reply(
-        server: &mut PileServer<S>,
+        pile_server: &mut PileServer<S>,
         known_pc: bool,
         owed: Owing,
         payload: &[u8],
         frame: &mut [u8; REPLY],
     ) -> (Waiting, usize)
-        ensures { Replies (gdb_service known_pc) (state S.Space.meaning server.old) payload.now
-            frame.new result.1 (state S.Space.meaning server.new) }
+        ensures { Replies (gdb_service known_pc) (state S.Space.meaning pile_server.old)
+            payload.now frame.new result.1 (state S.Space.meaning pile_server.new) }
     {
-        let (talk, count) = server.answer(owed, payload, frame);
+        let (talk, count) = pile_server.answer(owed, payload, frame);
         if known_pc {
             (talk, with_known_pc(payload, frame, count))
         } else {
@@ -86,8 +86,8 @@ impl<S: Space> Server<S> {
         };
         let (talk, item) = match talk.hear(received) {
             Heard::Packet { owed, payload } => {
-                let (server, frame) = (&mut self.server, &mut self.latest.reply);
-                let (talk, count) = Server::reply(server, self.known_pc, owed, payload, frame);
+                let (pile_server, frame) = (&mut self.pile_server, &mut self.latest.reply);
+                let (talk, count) = Server::reply(pile_server, self.known_pc, owed, payload, frame);
                 self.latest.count = count;
                 (talk, Item::Packet { payload })
             }
@@ -156,11 +156,11 @@ impl<S: Space> Server<S> {
     {
         let Server {
             talk,
-            server,
+            pile_server,
             known_pc: _,
             latest: _,
         } = self;
         let Some(talk) = talk else { unreachable!() };
-        server.close(talk)
+        pile_server.close(talk)
     }
 }

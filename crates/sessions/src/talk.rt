@@ -14,7 +14,7 @@ pub struct Waiting {
     talk: Talk,
 }
 
-// A talk with GDB in which a reply is owed, to be answered by the server of a pile.
+// A talk with GDB that owes a reply, to be given by the server of a pile.
 pub struct Owing {
     talk: Talk,
 }
@@ -41,7 +41,7 @@ impl Waiting {
         }
     }
 
-    // It is over.
+    // Ends the talk.
     pub(crate) fn end(self) {
         let Waiting { talk: Talk } = self;
     }

@@ -50,7 +50,7 @@ fn after_reply<S: Space>(server: PileServer<S>, owed: Owing, payload: &[u8]) -> 
 }
 
 // A packet with this payload is heard first: the server, and the reply that is owed.
-fn owed_after<S: Space + Drop>(
+fn server_and_owed<S: Space + Drop>(
     rt: &impl Abort,
     session: Session<S>,
     received: &[u8],
@@ -76,7 +76,7 @@ pub(crate) fn hear_packet<S: Space + Drop>(
     received: &[u8],
     payload: &[u8],
 ) -> Session<S> {
-    let (server, owed) = owed_after(rt, session, received, payload);
+    let (server, owed) = server_and_owed(rt, session, received, payload);
     after_reply(server, owed, payload)
 }
 
@@ -109,7 +109,7 @@ pub(crate) fn apply<S: Space + Drop>(
     expected: Result<usize, Stopped>,
 ) -> Session<S> {
     if owes {
-        let (mut server, owed) = owed_after(rt, session, &framed(b"D"), b"D");
+        let (mut server, owed) = server_and_owed(rt, session, &framed(b"D"), b"D");
         assert!(rt; server.apply(file) == expected);
         return after_reply(server, owed, b"D");
     }
@@ -125,7 +125,7 @@ pub(crate) fn reply<S: Space + Drop>(
     payload: &[u8],
     text: &[u8],
 ) -> Session<S> {
-    let (mut server, owed) = owed_after(rt, session, &framed(payload), payload);
+    let (mut server, owed) = server_and_owed(rt, session, &framed(payload), payload);
     let mut buffer = [b'.'; REPLY];
     let (talk, count) = server.answer(owed, payload, &mut buffer);
     let right = count == text.len() + 4 && buffer == framed(text);
