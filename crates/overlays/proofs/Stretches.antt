@@ -1,7 +1,7 @@
-use Rattle.std.proofs.Common.{◌≡◌, ℕ, zero, suc, ◌+◌, ◌<◌, ◌≤◌, List, [], ◌∷◌, ◌++◌, length, take, Some, None, Ok, Option, sym, ap, ◌∙◌, arith}
+use Rattle.std.proofs.Common.{◌≡◌, ℕ, zero, suc, ◌+◌, ◌<◌, ◌≤◌, List, [], ◌∷◌, ◌++◌, length, take, Some, None, Ok, Option, refl, sym, subst, ap, ◌∙◌, arith}
 use Rattle.std.specs.Option.{unwrap_or}
 use Rattle.std.proofs.lemmas.Grind.{common_steps}
-use Rattle.std.proofs.lemmas.List.{length-take-le}
+use Rattle.std.proofs.lemmas.List.{length-take-le, take-append-drop}
 use Rattle.std.proofs.lemmas.Slice.{take-put_mid, take-put_mid_below, drop-put_mid}
 use borrow.Rule.Slice.PartMut.{put_mid, mid_of, same_len_mid}
 use Rattle.spaces.specs.declared.fault.Fault.{Fault}
@@ -73,3 +73,14 @@ module _ (ps : Patches) (below : Pile) where
         let (fault, is, there) = p.ends (omega arith) in
         let place : first + n + r.0 ≡ first + (n + r.0) = omega arith in
         rw is (stopped layer first (n + r.0) before (put_mid n j after laid) (stretch_filled e) fault (omega arith) (shows_under (first + (n + r.0)) none ∙ ap under (sym place) ∙ there))
+
+  -- where it placed none, the first address has no byte, and the buffer is as it was
+  pub stretch_empty : (first n k : ℕ) (before now part : List ℕ) (r : ℕ × Option Fault) (so : Filled layer first n before now) (fits : n + k ≤ most first before)
+      (f : Fills under (first + n) (mid_of n k now) part r) → r.0 ≡ 0 → 0 < k → None ≡ lookup ps (first + n) → Fills layer first before (put_mid n k now part) (n, r.1)
+  stretch_empty first n k before now part r so fits f z h none =
+      let after = put_mid n k now part in
+      let place : n + r.0 ≡ n = omega arith in
+      let same : put_mid n 0 after [] ≡ after = take-append-drop n after in
+      let there : None ≡ lookup ps (first + (n + r.0)) = rw place none in
+      let t = stretch_stopped first n k 0 before now part [] r so fits f (sym z) refl (omega arith) there in
+      subst (λ (xs : List ℕ). Fills layer first before xs (n, r.1)) same (subst (λ (i : ℕ). Fills layer first before (put_mid n 0 after []) (i, r.1)) place t)

@@ -38,23 +38,25 @@ impl<S: Space> Space for Overlay<S> {
         })
     }
 
-    // The space below fills a stretch, and the patches are laid over it. Where it has no byte, there may be a patch.
+    // A patched address shows its patch, and nothing below is read for it. From any other on, the space below fills a
+    // stretch, and the patches are laid over it.
     fn fill(&self, first: u64, out: &mut [u8]) -> (usize, Option<Fault>) {
         let room = most(first, out);
         let mut count = 0;
         while count < room {
             let at = first + count as u64;
+            if let Some(byte) = self.patches.lookup(at) {
+                out[count] = byte;
+                count += 1;
+                continue;
+            }
             let (placed, fault) = fill_below(&self.below, at, &mut out[count..room]);
+            if placed == 0 {
+                return (count, fault);
+            }
             let end = count + placed;
             self.patches.lay_over(at, &mut out[count..end]);
             count = end;
-            if count < room {
-                let Some(byte) = self.patches.lookup(first + count as u64) else {
-                    return (count, fault);
-                };
-                out[count] = byte;
-                count += 1;
-            }
         }
         (count, None)
     }

@@ -4,6 +4,7 @@ use arrayvec::ArrayVec;
 use spaces::Patch;
 
 mod edits;
+mod places;
 mod reads;
 
 // At most 256 patches in memory of their own, in the order of their addresses. No model stands over it: that the patches

@@ -1,13 +1,12 @@
-ghost use Rattle.std.specs.Prelude.{◌≡◌, ◌+◌, ◌^◌, ◌<◌, ◌≤◌, length, MatchResult};
-ghost use Rattle.spaces.specs.Patches.{replaced};
+ghost use Rattle.std.specs.Prelude.{◌≡◌, ℕ, ◌+◌, ◌^◌, ◌≤◌, length};
 ghost use Rattle.spaces.specs.Edits.{EditsPatches, setting, clearing};
 ghost use Rattle.spaces.specs.Meant.{meant};
 ghost use Rattle.spaces.specs.EditLaws.{EditLaws, ClearLaw};
-ghost use Rattle.overlays.specs.Tables.{held};
+ghost use Rattle.overlays.specs.Tables.{held, Around, Replaces};
 
 use crate::table::PatchTable;
-use arrayvec::{ArrayVec, CapacityError};
-use spaces::{Edit, EditRefusal, Patch};
+use crate::table::places::splice_in;
+use spaces::{Edit, EditRefusal};
 
 impl PatchTable {
     // Patches consecutive addresses, unless more than 256 would be patched.
@@ -31,32 +30,36 @@ impl PatchTable {
     pub fn edit(&mut self, edit: Edit<'_>) -> Result<(), EditRefusal>
         ensures edits { EditsPatches (held self.old) (held self.new) (meant edit.entry) result }
         ensures laws { EditLaws (meant edit.entry) (held self.old) (held self.new) result }
+        ensures fits { (first count : ℕ) → meant edit.entry ≡ clearing first count → ClearLaw first count result }
     {
         edit.within()?;
-        *self = self
-            .replaced(edit.first(), edit.end(), edit.bytes())
-            .map_err(|_| EditRefusal::TooManyPatches)?;
-        Ok(())
+        self.replace(edit.first(), edit.end(), edit.bytes())
     }
 
-    // The patches before first, one for each byte from there on, and the patches from end on, if there is room for all. It
-    // takes an edit's parts, since each has its own place in the next table.
-    fn replaced(&self, first: u64, end: u128, bytes: &[u8]) -> Result<Self, CapacityError>
-        requires fits { first + length bytes.now ≤ end }
-        requires ends { end ≤ 2 ^ 64 }
-        ensures { MatchResult result (λ next. held next ≡ replaced first end bytes.now (held self.now)) (λ _. 256 < length (replaced first end bytes.now (held self.now))) }
+    // The places at which the patches from first to before end begin and end.
+    fn around(&self, first: u64, end: u128) -> (usize, usize)
+        requires { first ≤ end }
+        ensures { Around (held self.now) first end result.0 result.1 }
     {
         let (before, _) = self.parted(first as u128);
-        let (_, behind) = self.parted(end);
-        let mut patches = ArrayVec::new();
-        patches.try_extend_from_slice(before)?;
-        for (i, &byte) in bytes.iter().enumerate() {
-            let address = first + i as u64;
-            patches
-                .try_push(Patch { address, byte })
-                .map_err(CapacityError::simplify)?;
+        let (not_behind, _) = self.parted(end);
+        (before.len(), not_behind.len())
+    }
+
+    // Puts a patch for each byte, from first on, in the place of the patches from there to before end, unless there is no
+    // room for all. It takes an edit's parts, since each has its own place in the table.
+    fn replace(&mut self, first: u64, end: u128, bytes: &[u8]) -> Result<(), EditRefusal>
+        requires fits { first + length bytes.now ≤ end }
+        requires ends { end ≤ 2 ^ 64 }
+        ensures { Replaces (held self.old) (held self.new) first end bytes.now result }
+    {
+        let count = self.len();
+        let (low, high) = self.around(first, end);
+        let kept = low + (count - high);
+        if bytes.len() > 256 - kept {
+            return Err(EditRefusal::TooManyPatches);
         }
-        patches.try_extend_from_slice(behind)?;
-        Ok(PatchTable { patches })
+        splice_in(&mut self.patches, low, high, first, bytes);
+        Ok(())
     }
 }

@@ -1,20 +1,18 @@
 use Rattle.std.proofs.Common.{◌+◌, arith}
 use Rattle.spaces.proofs.Filling.{one_more}
 use Rattle.overlays.specs.Tables.{held}
-use Rattle.overlays.proofs.Stretches.{shows_patch, stretch_filled, stretch_stopped}
+use Rattle.overlays.proofs.Stretches.{shows_patch, stretch_filled, stretch_empty}
 use Rattle.overlays.proofs.overlay.OverlaySpace.fill.Goals as goal
 
-pub returns-in_default : goal.returns-in_default
-returns-in_default g c =
+pub loop-count-preserved-in-Some : goal.loop-count-preserved-in-Some
+loop-count-preserved-in-Some g c =
     let below = g.S.Space.meaning c.args.self.now.below in
-    stretch_stopped _ below _ _ _ _ _ _ _ _ _ c.loop-count.invariant (omega arith) c.fill_below-placed.ensures (omega arith) c.lay_over.ensures (omega arith) c.in_default.ensures
+    one_more _ _ _ _ _ c.loop-count.invariant _ (omega arith) (shows_patch (held c.args.self.now.patches) below (c.args.first + c.loop-count.count) _ c.in-Some.ensures)
 
-pub loop-count-preserved-then-count-room : goal.loop-count-preserved-then-count-room
-loop-count-preserved-then-count-room g c =
-    let ps = held c.args.self.now.patches in
+pub returns-then-placed-eq0 : goal.returns-then-placed-eq0
+returns-then-placed-eq0 g c =
     let below = g.S.Space.meaning c.args.self.now.below in
-    let filled = stretch_filled ps below _ _ _ _ _ _ _ _ _ c.loop-count.invariant (omega arith) c.fill_below-placed.ensures (omega arith) c.lay_over.ensures in
-    one_more _ _ _ _ _ filled _ (omega arith) (shows_patch ps below (c.args.first + (c.loop-count.count + c.fill_below-placed.result.0)) _ c.in-Some.ensures)
+    stretch_empty _ below _ _ _ _ _ _ _ c.loop-count.invariant (omega arith) c.fill_below-placed.ensures c.if-placed-eq0.true (omega arith) c.in_default.ensures
 
 pub loop-count-preserved : goal.loop-count-preserved
 loop-count-preserved g c =
