@@ -21,4 +21,4 @@ module _ (m : Map) where
   ]
 
 pub arose : EveryFaultAroseWhereItSays
-arose p n a f e = arose_in p.pile.base p.pile.layers p.lawful.layers p.lawful.base n a f e
+arose p n a f e = arose_in p.pile.base p.pile.layers p.lawful.layers p.lawful.base (omega arith) a f e

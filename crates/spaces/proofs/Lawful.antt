@@ -1,13 +1,20 @@
 use Rattle.std.proofs.Common.{◌≡◌, ℕ, Err, Result, arith}
 use Rattle.spaces.specs.declared.fault.Fault.{Fault}
-use Rattle.spaces.specs.Maps.{owned}
+use Rattle.spaces.specs.Maps.{own, owned}
 use Rattle.spaces.specs.Rules.{Own}
 use Rattle.spaces.specs.Piles.{Layer, LawfulLayer, Pile, bottom, on, Lawful}
 
 -- A bottom that is given by bytes and causes keeps its law, and a lawful layer on a lawful pile makes a lawful pile.
 
+pub err_err : {X : Type 0} (f g : Fault) → ◌≡◌ {A = Result X Fault} (Err f) (Err g) → f ≡ g
+err_err f g e = cc
+
+-- a space's own fault, once more
+pub own_is : (a cause : ℕ) (f : Fault) → own a cause ≡ f → Own a f
+own_is a cause f e = grind arith
+
 -- bytes and causes make own faults alone
-owned_own : (a : ℕ) (w : Result ℕ ℕ) (f : Fault) → owned a w ≡ Err f → Own a f
+pub owned_own : (a : ℕ) (w : Result ℕ ℕ) (f : Fault) → owned a w ≡ Err f → Own a f
 owned_own a w f e = grind arith
 
 pub bottom_lawful : (w : ℕ → Result ℕ ℕ) → Lawful (bottom w)
