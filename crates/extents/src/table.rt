@@ -1,4 +1,4 @@
-ghost use Rattle.std.specs.Prelude.{◌≡◌, ◌≤◌, length, Decides};
+ghost use Rattle.std.specs.Prelude.{◌≡◌, ◌≤◌, length, option_copied, Decides};
 
 use crate::extent::{Extent, contains, overlap};
 
@@ -67,18 +67,20 @@ impl<'a, E: Extent + Copy> Table<'a, E> {
         self.as_slice().get(i).copied()
     }
 
-    // The first that contains the address.
+    // The first that contains the address, where it stands in the table.
+    fn first_containing(&self, at: u64) -> Option<&E>
+        ensures { option_copied result ≡ first_containing E.Extent.bounds (held self.now) at }
+    {
+        self.as_slice().iter().find(|extent| contains(*extent, at))
+    }
+
+    // The first that contains the address. It alone is copied: to copy each that is compared takes longer.
+    #[tactic(auto, using(crate::proofs::Searching::finds_by))]
     pub fn lookup(&self, at: u64) -> Option<E>
         ensures answer { result ≡ first_containing E.Extent.bounds (held self.now) at }
         ensures means { Finds E.Extent.bounds (held self.now) at result }
     {
-        // not by `find`, whose loop took up to 1.8 times as long
-        for extent in self.as_slice() {
-            if contains(extent, at) {
-                return Some(*extent);
-            }
-        }
-        None
+        self.first_containing(at).copied()
     }
 
     // Whether one that it holds overlaps the extent, which may be of another kind.
