@@ -67,14 +67,14 @@ impl<'a, E: Extent + Copy> Table<'a, E> {
         self.as_slice().get(i).copied()
     }
 
-    // The first that contains the address, where it stands in the table.
+    // The first that contains the address, by reference.
     fn first_containing(&self, at: u64) -> Option<&E>
         ensures { option_copied result ≡ first_containing E.Extent.bounds (held self.now) at }
     {
         self.as_slice().iter().find(|extent| contains(*extent, at))
     }
 
-    // The first that contains the address. It alone is copied: to copy each that is compared takes longer.
+    // The first that contains the address. It is copied behind the search, whose loop has fewer instructions for that.
     #[tactic(auto, using(crate::proofs::Searching::finds_by))]
     pub fn lookup(&self, at: u64) -> Option<E>
         ensures answer { result ≡ first_containing E.Extent.bounds (held self.now) at }
